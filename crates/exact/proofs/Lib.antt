@@ -1,0 +1,10 @@
+pub mod Integers
+pub mod Signed
+pub mod Fractions
+pub mod Bits
+pub mod Grid
+pub mod Packing
+pub mod Rounding
+pub mod Operations
+pub mod Ranges
+pub mod Order

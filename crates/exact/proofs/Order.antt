@@ -1,0 +1,118 @@
+-- The order of scaled numbers by exponent and mantissa, and that halving and doubling are exact.
+use mathlib.Core.Path.{_≡_, sym, _∙_, ap}
+use mathlib.Core.Bool.{true, false}
+use mathlib.Core.Logic.{⊎-elim}
+use Prim.Native.Nat.{ℕ, _+_, _*_, _^_, _≤_, _<_}
+use native.Mathlib.Nat.{mul-le-mul-left, mul-le-mul-right, mul-lt-mul-of-pos-right, mul-one, mul-pos, le-of-lt}
+use native.Mathlib.Omega.{arith}
+use native.Mathlib.Decide.{ℕ-discrete}
+use borrow.Author.Tests.{le-leb, lt-leb, eq-eqb, ne-eqb}
+use lib.Dec.{leb, leb→le}
+use lib.IntN.{ℤ, pos, _+ℤ_, _-ℤ_}
+use lib.Pow.{pow-pos, pow-add, pow-mono}
+use Rattle.exact.specs.declared.Scaled.{Scaled}
+use Rattle.exact.specs.Integer.{posPart, negPart}
+use Rattle.exact.specs.Fraction.{Frac, _≼_, _≈_, _⊗_, _÷_, whole, at-most}
+use Rattle.exact.specs.Scaled.{scaled, nought, value, Normal, moved, half, double}
+use Rattle.exact.proofs.Integers.{bal-add, bal-diff}
+use Rattle.exact.proofs.Fractions.{lt-or-le}
+
+-- ---- the test and the order
+
+pub at-most-yes : (p q : Frac) → p ≼ q → at-most p q ≡ true
+unfolding at-most
+at-most-yes p q h = le-leb _ _ (h .le)
+
+pub at-most-holds : (p q : Frac) → at-most p q ≡ true → p ≼ q
+unfolding at-most
+at-most-holds p q h = record { le = leb→le _ _ (rw h tt) }
+
+-- ---- by exponent and mantissa
+
+leb-scale : (u a c : ℕ) → 0 < u → leb (a * u) (c * u) ≡ leb a c
+leb-scale u a c p = ⊎-elim
+    (λ l. lt-leb _ _ (mul-lt-mul-of-pos-right l p) ∙ sym (lt-leb _ _ l))
+    (λ l. le-leb _ _ (mul-le-mul-right u l) ∙ sym (le-leb _ _ l))
+    (lt-or-le c a)
+
+-- x's exponent is y's and g more
+module _ (x y : Scaled) (g : ℕ) (e : x .e ≡ y .e +ℤ pos g) where
+  unit : ℕ
+  unit = 2 ^ posPart (y .e) * 2 ^ negPart (x .e)
+
+  unit-pos : 0 < unit
+  unfolding unit
+  unit-pos = mul-pos (pow-pos (posPart (y .e))) (pow-pos (negPart (x .e)))
+
+  larger : x .m * 2 ^ posPart (x .e) * 2 ^ negPart (y .e) ≡ x .m * 2 ^ g * unit
+  unfolding unit
+  larger =
+      let b : posPart (x .e) + negPart (y .e) ≡ posPart (y .e) + g + negPart (x .e) = rw e (omega (arith, bal-add (y .e) (pos g))) in
+      omega (arith, ap (λ (z : ℕ). x .m * z) (simp (pow-add 2) at (ap (λ (z : ℕ). 2 ^ z) b)))
+
+  smaller : y .m * 2 ^ posPart (y .e) * 2 ^ negPart (x .e) ≡ y .m * unit
+  unfolding unit
+  smaller = omega arith
+
+  above-below : at-most (value x) (value y) ≡ leb (x .m * 2 ^ g) (y .m)
+  unfolding at-most value
+  above-below = rw (larger, smaller) (leb-scale unit (x .m * 2 ^ g) (y .m) unit-pos)
+
+  below-above : at-most (value y) (value x) ≡ leb (y .m) (x .m * 2 ^ g)
+  unfolding at-most value
+  below-above = rw (larger, smaller) (leb-scale unit (y .m) (x .m * 2 ^ g) unit-pos)
+
+-- of two numbers of b bits the one with the larger exponent is the larger
+larger-mantissa : (b m n g : ℕ) → 2 ^ b ≤ 2 * m → n < 2 ^ b → 0 < g → n < m * 2 ^ g
+larger-mantissa b m n g l h p =
+    let t : 2 ^ 1 ≤ 2 ^ g = pow-mono p in
+    omega (arith, mul-le-mul-left m t)
+
+pub larger-exponent : (b : ℕ) (x y : Scaled) (g : ℕ) → Normal b x → Normal b y → 0 < g → x .e ≡ y .e +ℤ pos g → at-most (value x) (value y) ≡ false
+larger-exponent b x y g n n' p e = above-below x y g e ∙ lt-leb _ _ (larger-mantissa b (x .m) (y .m) g (n .low) (n' .high) p)
+
+pub smaller-exponent : (b : ℕ) (x y : Scaled) (g : ℕ) → Normal b x → Normal b y → 0 < g → y .e ≡ x .e +ℤ pos g → at-most (value x) (value y) ≡ true
+smaller-exponent b x y g n n' p e = below-above y x g e ∙ le-leb _ _ (le-of-lt (larger-mantissa b (y .m) (x .m) g (n' .low) (n .high) p))
+
+pub equal-exponents : (x y : Scaled) → x .e ≡ y .e +ℤ pos 0 → at-most (value x) (value y) ≡ leb (x .m) (y .m)
+equal-exponents x y e = above-below x y 0 e ∙ rw (mul-one (x .m))
+
+pub zero-at-most : (x y : Scaled) → x .m ≡ 0 → at-most (value x) (value y) ≡ true
+zero-at-most x y z = at-most-yes (value x) (value y) (record { le = unfold value in rw z (omega arith) })
+
+pub not-at-most-zero : (b : ℕ) (x y : Scaled) → Normal b x → y .m ≡ 0 → at-most (value x) (value y) ≡ false
+unfolding at-most value
+not-at-most-zero b x y n z = lt-leb (value x .num * value y .den) (value y .num * value x .den) (rw z (omega (arith, mul-pos (mul-pos (pos-mantissa n) (pow-pos (posPart (x .e)))) (pow-pos (negPart (y .e))))))
+  where
+    pos-mantissa : Normal b x → 0 < x .m
+    pos-mantissa n = omega (arith, n .low, pow-pos b)
+
+-- ---- halving and doubling are exact
+
+pub moved-none : (x : Scaled) (e : ℤ) → x .m ≡ 0 → moved x e ≡ nought
+unfolding moved
+moved-none x e h = rw (eq-eqb (x .m) 0 h)
+
+pub moved-some : (x : Scaled) (e : ℤ) → (x .m ≡ 0 → ⊥) → moved x e ≡ scaled (x .m) e
+unfolding moved
+moved-some x e h = rw (ne-eqb (x .m) 0 h)
+
+-- moved x e has the value v where m × 2^e has it, or where x is zero and v too
+by-mantissa : (x : Scaled) (e : ℤ) (v : Frac) → (x .m ≡ 0 → v .num ≡ 0) → value (scaled (x .m) e) ≈ v → value (moved x e) ≈ v
+by-mantissa x e v z s = go (ℕ-discrete (x .m) 0)
+  where
+    go : Dec (x .m ≡ 0) → value (moved x e) ≈ v
+    go (yes n) = rw (moved-none x e n) (unfold value in record { eq = rw (z n) (omega arith) })
+    go (no n) = rw (moved-some x e n) s
+
+pub half-exact : (x : Scaled) → value (half x) ≈ value x ÷ 2
+half-exact x = by-mantissa x (x .e -ℤ pos 1) (value x ÷ 2) (λ n. unfold value _÷_ in rw n (omega arith)) (unfold value _÷_ in record { eq = is })
+  where
+    is : x .m * 2 ^ posPart (x .e -ℤ pos 1) * (2 ^ negPart (x .e) * 2) ≡ x .m * 2 ^ posPart (x .e) * 2 ^ negPart (x .e -ℤ pos 1)
+    is = omega (arith, ap (λ (z : ℕ). x .m * z) (simp (pow-add 2) at (ap (λ (z : ℕ). 2 ^ z) (bal-diff (x .e) (pos 1)))))
+
+pub double-exact : (x : Scaled) → value (double x) ≈ whole 2 ⊗ value x
+double-exact x = by-mantissa x (x .e +ℤ pos 1) (whole 2 ⊗ value x) (λ n. unfold value whole _⊗_ in rw n (omega arith)) (unfold value whole _⊗_ in record { eq = is })
+  where
+    is : x .m * 2 ^ posPart (x .e +ℤ pos 1) * (1 * 2 ^ negPart (x .e)) ≡ 2 * (x .m * 2 ^ posPart (x .e)) * 2 ^ negPart (x .e +ℤ pos 1)
+    is = omega (arith, ap (λ (z : ℕ). x .m * z) (simp (pow-add 2) at (ap (λ (z : ℕ). 2 ^ z) (bal-add (x .e) (pos 1)))))

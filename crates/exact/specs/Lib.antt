@@ -1,0 +1,4 @@
+pub mod Integer
+pub mod Fraction
+pub mod Scaled
+pub mod Rounding

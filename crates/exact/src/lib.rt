@@ -1,0 +1,43 @@
+// The scaled number of document 01, with the constants and the constructor that belong to it. All else in this crate is definitions (specs/) and theorems
+// (proofs/).
+ghost use mathlib.Core.Path.{_≡_};
+ghost use mathlib.Core.Bool.{false};
+ghost use Prim.Native.Nat.{_^_, _<_};
+ghost use lib.IntN.{pos, _-ℤ_};
+ghost use Rattle.exact.specs.Fraction.{whole as wholeNumber};
+ghost use Rattle.exact.specs.Rounding.{round};
+
+// m × 2^e.
+pub struct Scaled {
+    pub m: u32,
+    pub e: i32,
+}
+
+// -t, for a t that fits.
+fn minus(t: u32) -> i32
+    requires { ⌜ t < 2 ^ 31 ⌝ }
+    ensures { λ r. ⌜ r ≡ pos 0 -ℤ pos t ⌝ }
+{
+    0 - (t as i32)
+}
+
+impl Scaled {
+    pub const ZERO: Scaled = Scaled { m: 0, e: 0 };
+
+    pub const ONE: Scaled = Scaled {
+        m: 2147483648,
+        e: -31,
+    };
+
+    // The whole number n, which fits whatever it is: D(n) and U(n) are both n.
+    pub fn whole(n: u32) -> Scaled
+        ensures { λ r. ⌜ r ≡ round false 32 (wholeNumber n) ⌝ }
+    {
+        if n == 0 {
+            return Scaled::ZERO;
+        }
+        let z = u32::leading_zeros(n);
+        let m = n << z;
+        Scaled { m, e: minus(z) }
+    }
+}

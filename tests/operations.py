@@ -1,0 +1,457 @@
+#!/usr/bin/env python3
+"""Compares the arithmetic of crate `encounter`, and `exact::Scaled::whole`, with scaled.py.
+
+    python3 tests/operations.py [--root FOLDER] [--seed N]
+
+The functions are in a private module. So the crates' code is copied to a temporary repository, the
+module is made public there, and a program that calls it is run by `rt try`: on the interpreter, compiled
+at -O0 and at -O3, and compiled with the compiler's assumptions checked. The program reads a record for
+each case and writes a line, and `rt try` compares the lines with those of scaled.py.
+"""
+
+import argparse
+import itertools
+import pathlib
+import random
+import re
+import shutil
+import struct
+import subprocess
+import sys
+import tempfile
+from fractions import Fraction
+from typing import NamedTuple
+
+sys.dont_write_bytecode = True
+import scaled
+from scaled import LEAST, LIMIT, ZERO, Scaled
+
+SEED = 1
+# The cases of one run. The interpreter stops a run at 10,000,000 steps, and a case takes about 1,000.
+BATCH = 5000
+# How many differing cases are printed.
+SHOWN = 5
+
+# Reads records of 18 bytes: the kind, the direction (1 for U), then two operands of 8 bytes,
+# little-endian: m and e of a scaled number, or a whole number. Writes m and e of the answer as 16
+# hexadecimal digits and a line end; a negative e is two's complement. The answer of compare is m = 1
+# or m = 0, with e = 0.
+DRIVER = """\
+use encounter::arithmetic;
+use exact::Scaled;
+
+fn word(b: &[u8; 18], at: usize) -> u32 {
+    (b[at] as u32) + (b[at + 1] as u32) * 256 + (b[at + 2] as u32) * 65536 + (b[at + 3] as u32) * 16777216
+}
+
+fn long(b: &[u8; 18], at: usize) -> u64 {
+    (word(b, at) as u64) + (word(b, at + 4) as u64) * 4294967296
+}
+
+fn signed(x: u32) -> i32 {
+    if x < 2147483648 {
+        return x as i32;
+    }
+    -1 - ((4294967295 - x) as i32)
+}
+
+fn unsigned(e: i32) -> u32 {
+    if e < 0 {
+        return 4294967295 - ((-1 - e) as u32);
+    }
+    e as u32
+}
+
+fn scaled(b: &[u8; 18], at: usize) -> Scaled {
+    Scaled { m: word(b, at), e: signed(word(b, at + 4)) }
+}
+
+fn truth(t: bool) -> Scaled {
+    if t {
+        return Scaled { m: 1, e: 0 };
+    }
+    Scaled { m: 0, e: 0 }
+}
+
+fn answer(b: &[u8; 18]) -> Scaled {
+    let up = b[1] == 1;
+    match b[0] {
+        0 => arithmetic::product(up, scaled(b, 2), scaled(b, 10)),
+        1 => arithmetic::sum(up, scaled(b, 2), scaled(b, 10)),
+        2 => arithmetic::over(up, scaled(b, 2), word(b, 10)),
+        3 => arithmetic::quotient(up, scaled(b, 2), scaled(b, 10)),
+        4 => arithmetic::ratio(up, long(b, 2), long(b, 10)),
+        5 => arithmetic::halved(scaled(b, 2)),
+        6 => arithmetic::doubled(scaled(b, 2)),
+        7 => truth(arithmetic::compare(scaled(b, 2), scaled(b, 10))),
+        _ => Scaled::whole(word(b, 2)),
+    }
+}
+
+fn digits(line: &mut [u8; 17], at: usize, x: u32) {
+    let mut rest = x;
+    let mut i: usize = 8;
+    while 0 < i {
+        i -= 1;
+        let d = (rest % 16) as u8;
+        if d < 10 {
+            line[at + i] = 48 + d;
+        } else {
+            line[at + i] = 87 + d;
+        }
+        rest = rest / 16;
+    }
+}
+
+fn main() {
+    let mut record = [0u8; 18];
+    let mut line = [10u8; 17];
+    while io::read_full(0, &mut record) == 18 {
+        let r = answer(&record);
+        digits(&mut line, 0, r.m);
+        digits(&mut line, 8, unsigned(r.e));
+        io::write_all(1, &line);
+    }
+}
+"""
+LINE = 17
+
+
+class Kind(NamedTuple):
+    """An operation: whether it has a direction, its answer, and its exact result (see scaled.py)."""
+
+    directed: bool
+    answer: object
+    exact: object
+
+
+# In the order of the driver's numbers.
+KINDS = {
+    "product": Kind(True, scaled.product, scaled.exact_product),
+    "sum": Kind(True, scaled.plus, scaled.exact_sum),
+    "over": Kind(True, scaled.over, scaled.exact_over),
+    "quotient": Kind(True, scaled.quotient, scaled.exact_quotient),
+    "ratio": Kind(True, scaled.ratio, lambda n, d: (Fraction(n, d), 0)),
+    "halved": Kind(False, lambda a, _: scaled.halved(a), lambda a, _: scaled.exact_over(a, 2)),
+    "doubled": Kind(False, lambda a, _: scaled.doubled(a), lambda a, _: scaled.exact_double(a)),
+    "compare": Kind(False, lambda a, b: Scaled(int(scaled.at_most(a, b)), 0), None),
+    "whole": Kind(False, lambda n, _: scaled.whole(n), lambda n, _: (Fraction(n), 0)),
+}
+NUMBERS = {kind: n for n, kind in enumerate(KINDS)}
+
+
+class Case(NamedTuple):
+    kind: str
+    up: bool
+    x: object
+    y: object = 0
+
+
+def is_defined(up, r, q, shift):
+    """Whether r is D or U of q × 2^shift by the definition, with 2^shift divided out."""
+    return scaled.is_rounded(up, r if r == ZERO else Scaled(r.m, r.e - shift), q)
+
+
+def expected(case):
+    """The answer by scaled.py, tested against the definition of D or U, or of both where it is exact."""
+    kind = KINDS[case.kind]
+    r = kind.answer(case.up, case.x, case.y) if kind.directed else kind.answer(case.x, case.y)
+    if kind.exact:
+        for up in [case.up] if kind.directed else [False, True]:
+            assert is_defined(up, r, *kind.exact(case.x, case.y)), case
+    return r
+
+
+# The operands.
+
+EDGES = [LEAST, LEAST + 1, LIMIT - 2, LIMIT - 1]
+GAPS = [0, 1, 31, 32, 33, 62, 63, 64, 65, 1000000]
+# The functions take an e from -2^28 to 2^28, and ratios of whole numbers below 2^48.
+E_END = 1 << 28
+N_END = 1 << 48
+# Document 01's fractions are of whole numbers up to this.
+N_MOST = 2 * 10**14
+
+
+class Draw:
+    """Random operands."""
+
+    def __init__(self, seed):
+        self.random = random.Random(seed)
+
+    def whole(self, most):
+        """From 1 to most, each number of bits about as likely as another."""
+        bits = self.random.randint(1, most.bit_length())
+        return min(self.random.randrange(1 << (bits - 1), 1 << bits), most)
+
+    def m(self):
+        return self.random.randrange(LEAST, LIMIT)
+
+    def short(self):
+        """A whole number of 16 bits."""
+        return self.random.randrange(1 << 15, 1 << 16)
+
+    def ms(self):
+        return EDGES + [self.m(), self.m()]
+
+    def e(self):
+        near = self.random.randint(-100, 100)
+        far = self.random.randint(-(10**8), 10**8)
+        return self.random.choice([0, -31, E_END, -E_END, near, far])
+
+    def number(self):
+        return Scaled(self.m(), self.e())
+
+    def apart(self, m, n, gap):
+        """Two numbers, with these m and with exponents that differ by gap, in both orders."""
+        e = max(self.e(), gap - E_END)
+        return itertools.permutations([Scaled(m, e), Scaled(n, e - gap)])
+
+
+def near_powers(end):
+    """The powers of two and their neighbours, from 1 on and below end."""
+    around = {(1 << k) + i for k in range(end.bit_length()) for i in (-1, 0, 1)}
+    return sorted(n for n in around if 0 < n < end)
+
+
+# The cases.
+
+
+def both(kind, x, y):
+    return [Case(kind, False, x, y), Case(kind, True, x, y)]
+
+
+def pairs(draw):
+    for gap in GAPS:
+        for m, n in itertools.product(draw.ms(), repeat=2):
+            yield from draw.apart(m, n, gap)
+    for _ in range(1000):
+        yield from draw.apart(draw.m(), draw.m(), draw.random.randint(0, 70))
+    # Many of these have an exact product and an exact sum.
+    for _ in range(100):
+        yield from draw.apart(draw.short() << 16, draw.short() << 16, draw.random.randint(0, 20))
+
+
+def of_pairs(draw):
+    for a, b in pairs(draw):
+        yield from both("product", a, b)
+        yield from both("sum", a, b)
+        yield from both("quotient", a, b)
+        yield Case("compare", False, a, b)
+
+
+def of_far_exponents(draw):
+    for a, b in itertools.permutations([Scaled(LIMIT - 1, 10**8), Scaled(LEAST, -(10**8))]):
+        yield from both("sum", a, b)
+        yield Case("compare", False, a, b)
+
+
+def of_zeros(draw):
+    for a in [ZERO] + [draw.number() for _ in range(20)]:
+        for x, y in (a, ZERO), (ZERO, a):
+            yield from both("product", x, y)
+            yield from both("sum", x, y)
+            yield Case("compare", False, x, y)
+        if a != ZERO:
+            yield from both("quotient", ZERO, a)
+        yield from both("over", ZERO, draw.whole(LIMIT - 1))
+
+
+def of_carries(draw):
+    """Products just below 2^63, where U often carries at 2^32."""
+    for m in EDGES + [draw.m() for _ in range(200)]:
+        yield from both("product", Scaled(m, draw.e()), Scaled(((1 << 63) - 1) // m, draw.e()))
+
+
+def of_divisors(draw):
+    for k in [1, 2, 3, LEAST - 1, LEAST, LEAST + 1, LIMIT - 2, LIMIT - 1]:
+        for m in draw.ms():
+            yield from both("over", Scaled(m, draw.e()), k)
+    # The divisors (n+1)(n+2) of the rounded steps.
+    for n in range(4097):
+        yield from both("over", draw.number(), (n + 1) * (n + 2))
+    for _ in range(1000):
+        yield from both("over", draw.number(), draw.whole(LIMIT - 1))
+
+
+def of_exact_quotients(draw):
+    for _ in range(200):
+        k = draw.short()
+        a = Scaled(scaled.whole(k * draw.short()).m, draw.e())
+        yield from both("over", a, k)
+        yield from both("quotient", a, Scaled(scaled.whole(k).m, draw.e()))
+
+
+# Document 01, "Encounters on each edge": n, d, D(n/d) and U(n/d).
+DOCUMENT = [
+    (1, 3, Scaled(2863311530, -33), Scaled(2863311531, -33)),
+    (1, 48, Scaled(2863311530, -37), Scaled(2863311531, -37)),
+    ((1 << 40) + 1, 1 << 40, scaled.ONE, Scaled(LEAST + 1, -31)),
+    (0, 1, ZERO, ZERO),
+]
+
+
+def of_document(draw):
+    for n, d, lower, upper in DOCUMENT:
+        assert (scaled.ratio(False, n, d), scaled.ratio(True, n, d)) == (lower, upper)
+        yield from both("ratio", n, d)
+
+
+def of_ratios(draw):
+    ends = near_powers(N_END) + [10**14, N_MOST - 1, N_MOST]
+    for n in ends:
+        for x, y in (0, n), (n, n), (n, 1), (1, n), (n, 3), (n - 1, n), (n, N_MOST), (N_MOST, n):
+            yield from both("ratio", x, y)
+    for _ in range(1000):
+        yield from both("ratio", draw.random.choice(ends), draw.random.choice(ends))
+        yield from both("ratio", draw.whole(N_MOST), draw.whole(N_MOST))
+    # A whole quotient, and one just below it.
+    for _ in range(200):
+        d = draw.whole(N_MOST)
+        n = d * draw.whole(N_MOST // d)
+        yield from both("ratio", n, d)
+        yield from both("ratio", n - 1, d)
+
+
+def of_one_number(draw):
+    edges = [Scaled(m, e) for m in EDGES for e in (0, 1, -1, -31, E_END, -E_END)]
+    for a in [ZERO] + edges + [draw.number() for _ in range(200)]:
+        yield Case("halved", False, a)
+        yield Case("doubled", False, a)
+        yield Case("compare", False, a, a)
+    for n in [0] + near_powers(LIMIT) + [draw.whole(LIMIT - 1) for _ in range(300)]:
+        yield Case("whole", False, n)
+
+
+PARTS = [
+    of_pairs,
+    of_far_exponents,
+    of_zeros,
+    of_carries,
+    of_divisors,
+    of_exact_quotients,
+    of_document,
+    of_ratios,
+    of_one_number,
+]
+
+
+def all_cases(seed):
+    draw = Draw(seed)
+    return [case for part in PARTS for case in part(draw)]
+
+
+# The run.
+
+
+def packed(operand):
+    return struct.pack("<Ii", *operand) if isinstance(operand, Scaled) else struct.pack("<Q", operand)
+
+
+def record(case):
+    return bytes([NUMBERS[case.kind], case.up]) + packed(case.x) + packed(case.y)
+
+
+def line(r):
+    return "%08x%08x\n" % (r.m, r.e % LIMIT)
+
+
+def read_line(text):
+    m, e = int(text[:8], 16), int(text[8:16], 16)
+    return Scaled(m, e - LIMIT if e >= LEAST else e)
+
+
+def scratch(root, folder):
+    """A repository of the crates' code, with the module public and the driver added."""
+    for source in root.glob("crates/*/src"):
+        shutil.copytree(source, folder / source.relative_to(root))
+    library = folder / "crates/encounter/src/lib.rt"
+    text, found = re.subn("^mod arithmetic;$", "pub mod arithmetic;", library.read_text(), flags=re.M)
+    if found != 1:
+        sys.exit("operations: crates/encounter/src/lib.rt has no line 'mod arithmetic;'")
+    library.write_text(text)
+    driver = folder / "crates/driver"
+    (driver / "src").mkdir(parents=True)
+    (driver / "src/main.rt").write_text(DRIVER)
+    listed = (root / "crates.txt").read_text()
+    (folder / "crates.txt").write_text(listed + "\ndriver: encounter exact io libc\n")
+
+
+# What `rt try` says of a way of running whose output differs: the way, the first byte that differs, the output
+# from there on, and a line on how the run ended.
+DIFFERS = re.compile(
+    r"^FAIL: (.*) (?:ended|failed), .*\n"
+    r'on standard output, at byte (\d+), expected "[^"]*".*, found "([^"]*)".*\n'
+    r"what the run said:\n(.*)",
+    re.M,
+)
+
+
+def shown(x):
+    return str(tuple(x)) if isinstance(x, Scaled) else str(x)
+
+
+def written(answer, at, text, said):
+    """What was written for a case, where it differs from byte `at` of its line on."""
+    if text == "":
+        return "nothing, " + said
+    return shown(read_line(line(answer)[:at] + text))
+
+
+def run(folder, cases, answers):
+    """Runs the cases. Gives the index of the first one that differs, with a text on it, or None."""
+    driver = folder / "crates/driver"
+    (driver / "stdin").write_bytes(b"".join(map(record, cases)))
+    (driver / "stdout").write_text("".join(map(line, answers)))
+    ended = subprocess.run(["rt", "try", "driver"], cwd=folder, capture_output=True, text=True)
+    if ended.returncode == 0:
+        return None
+    ways = [(int(at), way, text, said) for way, at, text, said in DIFFERS.findall(ended.stdout)]
+    first = min([at // LINE for at, *_ in ways], default=len(cases))
+    if first >= len(cases):
+        sys.exit("operations: rt try failed\n" + ended.stdout + ended.stderr)
+    case, answer = cases[first], answers[first]
+    words = [case.kind, "U" if case.up else "D", shown(case.x), shown(case.y), "expected", shown(answer)]
+    lines = [" ".join(words)]
+    for at, way, text, said in ways:
+        if at // LINE == first:
+            lines.append("  %s: %s" % (way, written(answer, at % LINE, text, said)))
+    return first, "\n".join(lines)
+
+
+def differences(folder, cases, answers):
+    """A text on each case that differs."""
+    at = 0
+    while at < len(cases):
+        end = at + BATCH
+        found = run(folder, cases[at:end], answers[at:end])
+        if found is None:
+            at = end
+        else:
+            first, text = found
+            at += first + 1
+            yield text
+
+
+def main():
+    parser = argparse.ArgumentParser(description="Compares the arithmetic of crate encounter with scaled.py.")
+    here = pathlib.Path(__file__).resolve().parent.parent
+    parser.add_argument("--root", type=pathlib.Path, default=here, help="the repository to test")
+    parser.add_argument("--seed", type=int, default=SEED, help="of the random operands")
+    words = parser.parse_args()
+    print("operations: seed %d" % words.seed)
+    cases = all_cases(words.seed)
+    answers = list(map(expected, cases))
+    with tempfile.TemporaryDirectory() as name:
+        folder = pathlib.Path(name)
+        scratch(words.root, folder)
+        found = list(itertools.islice(differences(folder, cases, answers), SHOWN))
+    if found:
+        print("\n".join(found))
+        print("operations: these cases differ, and perhaps later ones")
+        sys.exit(1)
+    print("operations: %d cases agree" % len(cases))
+
+
+if __name__ == "__main__":
+    main()
