@@ -411,8 +411,8 @@ def run(folder, cases, answers):
     if first >= len(cases):
         sys.exit("operations: rt try failed\n" + ended.stdout + ended.stderr)
     case, answer = cases[first], answers[first]
-    words = [case.kind, "U" if case.up else "D", shown(case.x), shown(case.y), "expected", shown(answer)]
-    lines = [" ".join(words)]
+    direction = [" D", " U"][case.up] if KINDS[case.kind].directed else ""
+    lines = ["%s%s %s %s: expected %s" % (case.kind, direction, shown(case.x), shown(case.y), shown(answer))]
     for at, way, text, said in ways:
         if at // LINE == first:
             lines.append("  %s: %s" % (way, written(answer, at % LINE, text, said)))

@@ -1,24 +1,61 @@
 -- Document 01, 'Encounters on each edge': the cases marked ★, one table. proofs/Stars.antt proves `All stars`, one statement.
 use mathlib.Core.Path.{_≡_}
-use mathlib.Core.Bool.{true, false}
+use mathlib.Core.Bool.{Bool, true, false}
 use mathlib.Core.List.{List, [], _∷_}
-use Prim.Native.Nat.{_+_, _^_}
-use lib.IntN.{pos, negsuc}
+use Prim.Native.Nat.{ℕ, _+_, _^_}
+use lib.IntN.{ℤ, pos, negsuc}
 use Rattle.exact.specs.declared.Scaled.{Scaled}
-use Rattle.exact.specs.Fraction.{_over_, whole}
-use Rattle.exact.specs.Scaled.{scaled, nought}
+use Rattle.exact.specs.Fraction.{Frac, _≈_, _over_, whole}
+use Rattle.exact.specs.Scaled.{scaled, nought, value}
 use Rattle.exact.specs.Rounding.{D, U}
+use Rattle.exact.specs.Encounter.{Encounter, u, h, X, Y, t, a₀}
+use Rattle.exact.specs.Series.{c}
+use Rattle.exact.specs.Bracket.{side-letters, side-terms, M, tail-bound, lower-end, upper-end, readable}
+use Rattle.exact.specs.Accepted.{begin-refusal}
 
 -- a case: what is computed, and what the paper says that it is
 pub data Star : Type 0 where
   scaled-is : Scaled → Scaled → Star
+  fraction-is : Frac → Frac → Star
+  number-is : ℕ → ℕ → Star
+  test-is : Bool → Bool → Star
 
 abbrev pub Holds : Star → Type 0
 Holds (scaled-is x y) = x ≡ y
+Holds (fraction-is p q) = p ≈ q
+Holds (number-is m n) = m ≡ n
+Holds (test-is a b) = a ≡ b
 
 abbrev pub All : List Star → Type 0
 All [] = Unit {0}
 All (s ∷ l) = Holds s × All l
+
+abbrev pub of : ℕ → ℕ → ℕ → ℤ → ℤ → Encounter
+of R sx sy xm ym = record { R = R; sx = sx; sy = sy; xm = xm; ym = ym }
+
+-- (10, 10, 10, 0, 0), (8, 1, 1, 8, 0), (8, 1, 1, 8, 1), and the second with xm = −8
+abbrev pub E₁ : Encounter
+E₁ = of 10 10 10 (pos 0) (pos 0)
+
+abbrev pub E₂ : Encounter
+E₂ = of 8 1 1 (pos 8) (pos 0)
+
+abbrev pub E₃ : Encounter
+E₃ = of 8 1 1 (pos 8) (pos 1)
+
+abbrev pub E₄ : Encounter
+E₄ = of 8 1 1 (negsuc 7) (pos 0)
+
+-- the exact c(n)
+abbrev pub c-of : Encounter → ℕ → Frac
+c-of E n = c (u E) (h E) (X E) (Y E) (a₀ E) n
+
+-- 1/2 and 1/8
+abbrev pub a-half : Scaled
+a-half = scaled (2 ^ 31) (negsuc 31)
+
+abbrev pub an-eighth : Scaled
+an-eighth = scaled (2 ^ 31) (negsuc 33)
 
 unfoldable pub stars : List Star
 stars =
@@ -34,4 +71,38 @@ stars =
     -- ★ D(0) = U(0) = 0.
     ∷ scaled-is (D (whole 0)) nought
     ∷ scaled-is (U (whole 0)) nought
+    -- ★ (10, 10, 10, 0, 0): u = c(0) = M = 1/2, h = 0, c(1) = 1/8, exact c(2) = 1/48.
+    ∷ fraction-is (u E₁) (1 over 2)
+    ∷ fraction-is (c-of E₁ 0) (1 over 2)
+    ∷ fraction-is (h E₁) (whole 0)
+    ∷ fraction-is (c-of E₁ 1) (1 over 8)
+    ∷ fraction-is (c-of E₁ 2) (1 over 48)
+    ∷ scaled-is (side-letters false E₁ .u) a-half
+    ∷ scaled-is (side-letters true E₁ .u) a-half
+    ∷ scaled-is (side-letters false E₁ .c₀) a-half
+    ∷ scaled-is (side-letters true E₁ .c₀) a-half
+    ∷ scaled-is (side-letters false E₁ .h) nought
+    ∷ scaled-is (side-letters true E₁ .h) nought
+    ∷ scaled-is (side-terms false E₁ 1 .c) an-eighth
+    ∷ scaled-is (side-terms true E₁ 1 .c) an-eighth
+    ∷ scaled-is (M E₁) a-half
+    -- ★ Same, N = 1: tail bound 1/4; a read is accepted, as 1 ≤ 3.
+    ∷ fraction-is (tail-bound E₁ 1) (1 over 4)
+    ∷ test-is (readable E₁ 1) true
+    -- ★ (8, 1, 1, 8, 0): t = 64, accepted; M = 1,056.
+    ∷ fraction-is (t E₂) (whole 64)
+    ∷ fraction-is (value (side-letters true E₂ .t)) (whole 64)
+    ∷ number-is (begin-refusal E₂) 0
+    ∷ fraction-is (value (M E₂)) (whole 1056)
+    -- ★ Same: N = 2,109 gives 23, N = 2,110 is read.
+    ∷ test-is (readable E₂ 2109) false
+    ∷ test-is (readable E₂ 2110) true
+    -- ★ (8, 1, 1, 8, 1): 7.
+    ∷ number-is (begin-refusal E₃) 7
+    -- ★ xm = −8 in place of 8: the same answers.
+    ∷ number-is (begin-refusal E₄) (begin-refusal E₂)
+    ∷ scaled-is (M E₄) (M E₂)
+    ∷ test-is (readable E₄ 2109) (readable E₂ 2109)
+    ∷ scaled-is (lower-end E₄ 2110) (lower-end E₂ 2110)
+    ∷ scaled-is (upper-end E₄ 2110) (upper-end E₂ 2110)
     ∷ []

@@ -8,3 +8,14 @@ pub mod Rounding
 pub mod Operations
 pub mod Ranges
 pub mod Order
+pub mod Convolution
+pub mod ExactTerms
+pub mod Unrounded
+pub mod Majorant
+pub mod Parallel
+pub mod Accepted
+pub mod Enclosure
+pub mod Powers
+pub mod Closeness
+pub mod Exponents
+pub mod Mirror

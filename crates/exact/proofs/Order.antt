@@ -1,6 +1,6 @@
 -- The order of scaled numbers by exponent and mantissa, and that halving and doubling are exact.
 use mathlib.Core.Path.{_≡_, sym, _∙_, ap}
-use mathlib.Core.Bool.{true, false}
+use mathlib.Core.Bool.{Bool, true, false}
 use mathlib.Core.Logic.{⊎-elim}
 use Prim.Native.Nat.{ℕ, _+_, _*_, _^_, _≤_, _<_}
 use native.Mathlib.Nat.{mul-le-mul-left, mul-le-mul-right, mul-lt-mul-of-pos-right, mul-one, mul-pos, le-of-lt}
@@ -12,10 +12,12 @@ use lib.IntN.{ℤ, pos, _+ℤ_, _-ℤ_}
 use lib.Pow.{pow-pos, pow-add, pow-mono}
 use Rattle.exact.specs.declared.Scaled.{Scaled}
 use Rattle.exact.specs.Integer.{posPart, negPart}
-use Rattle.exact.specs.Fraction.{Frac, _≼_, _≈_, _⊗_, _÷_, whole, at-most}
+use Rattle.exact.specs.Fraction.{Frac, _≼_, _≈_, _⊕_, _⊗_, _÷_, whole, at-most}
 use Rattle.exact.specs.Scaled.{scaled, nought, value, Normal, moved, half, double}
 use Rattle.exact.proofs.Integers.{bal-add, bal-diff}
-use Rattle.exact.proofs.Fractions.{lt-or-le}
+use Rattle.exact.specs.Rounding.{round}
+use Rattle.exact.proofs.Fractions.{lt-or-le, ≈-refl, ≈-sym, add-cong}
+use Rattle.exact.proofs.Rounding.{round-cong}
 
 -- ---- the test and the order
 
@@ -116,3 +118,10 @@ double-exact x = by-mantissa x (x .e +ℤ pos 1) (whole 2 ⊗ value x) (λ n. un
   where
     is : x .m * 2 ^ posPart (x .e +ℤ pos 1) * (1 * 2 ^ negPart (x .e)) ≡ 2 * (x .m * 2 ^ posPart (x .e)) * 2 ^ negPart (x .e +ℤ pos 1)
     is = omega (arith, ap (λ (z : ℕ). x .m * z) (simp (pow-add 2) at (ap (λ (z : ℕ). 2 ^ z) (bal-add (x .e) (pos 1)))))
+
+-- a sum with a half, or with a double
+pub sum-half : (up : Bool) (b : ℕ) (x y : Scaled) → 0 < b → round up b (value x ⊕ value y ÷ 2) ≡ round up b (value x ⊕ value (half y))
+sum-half up b x y bp = round-cong up b bp (add-cong (≈-refl (value x)) (≈-sym (half-exact y)))
+
+pub sum-double : (up : Bool) (b : ℕ) (x y : Scaled) → 0 < b → round up b (value x ⊕ whole 2 ⊗ value y) ≡ round up b (value x ⊕ value (double y))
+sum-double up b x y bp = round-cong up b bp (add-cong (≈-refl (value x)) (≈-sym (double-exact y)))

@@ -2,3 +2,8 @@ pub mod Integer
 pub mod Fraction
 pub mod Scaled
 pub mod Rounding
+pub mod Encounter
+pub mod Series
+pub mod Steps
+pub mod Bracket
+pub mod Accepted

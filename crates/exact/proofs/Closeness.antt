@@ -1,0 +1,210 @@
+-- How close the two ends are: the upper side is at most the lower side × (1 + 2^-31)^w, with w counted step by step.
+use mathlib.Core.Bool.{true, false}
+use Prim.Native.Nat.{ℕ, zero, suc, _+_, _*_, _^_, _≤_, _<_}
+use native.Mathlib.Bridge.{le-by-compare, IsLe}
+use native.Mathlib.Nat.{suc-pred-eq-of-pos}
+use native.Mathlib.Omega.{arith}
+use Rattle.exact.specs.Fraction.{Frac, _≼_, _⊕_, _⊗_, _÷_, _⊘_, _↑_, _over_, whole}
+use Rattle.exact.specs.Scaled.{value}
+use Rattle.exact.specs.Rounding.{D, U, round, slack}
+use Rattle.exact.specs.Encounter.{Encounter}
+use Rattle.exact.specs.Steps.{add, mul, div, powers, next-power}
+use Rattle.exact.specs.Bracket.{one, side-letters, side-terms, side-powers, sum-to, tail-bound, upper-exponential, lower-exponential, lower-end, upper-end}
+use Rattle.exact.specs.Accepted.{Accepted}
+use Rattle.exact.proofs.Fractions.{≼-refl, ≼-trans, ≼-of, ≽-of, add-mono, mul-mono, num-pos, quot-mono, quot-mul}
+use Rattle.exact.proofs.Rounding.{round-close}
+use Rattle.exact.proofs.Powers.{Near, near-of, near-more, near-plus, near-times, near-share, pow-add, pow-square, pow-more, one-le-pow, grow}
+use Rattle.exact.proofs.Unrounded.{same}
+use Rattle.exact.proofs.Parallel.{Within, Close-letters, letters-close, terms-close, powers-close}
+use Rattle.exact.proofs.Enclosure.{up, one-is, drop-last, lower-powers-pos, lower-powers-le, le-upper-powers}
+use Rattle.exact.proofs.Accepted.{facts}
+
+-- 1 + 2^-31
+abbrev ρ : Frac
+ρ = slack 31
+
+one≼ρ : whole 1 ≼ ρ
+unfolding slack whole _over_ IsLe
+one≼ρ = record { le = le-by-compare _ _ tt }
+
+one≼ρρ : whole 1 ≼ ρ ⊗ ρ
+one≼ρρ = ≼-trans one≼ρ (grow ρ ρ one≼ρ)
+
+near-up : (q : Frac) → value (U q) ≼ q ⊗ ρ
+near-up q = round-close true 31 q .above
+
+near-down : (q : Frac) → q ≼ value (D q) ⊗ ρ
+near-down q = round-close false 31 q .below
+
+-- ---- the upper side against the lower: two factors for each rounding
+
+rounds-form : (q ρ x : Frac) → q ⊗ ρ ⊗ x ⊗ ρ ≼ q ⊗ (ρ ⊗ ρ ⊗ x)
+unfolding _⊗_
+rounds-form q ρ x = record { le = omega arith }
+
+close : Within value (round true 32) value (round false 32) (Near (ρ ⊗ ρ))
+unfolding _↑_
+close = record {
+  same = λ q. near-of (≼-refl q);
+  more = λ l h. near-more one≼ρρ l h;
+  plus = λ h k. near-plus h k;
+  times = λ h k. near-times h k;
+  share = λ n h. near-share n h;
+  rounds = λ h. record { near = ≼-trans (near-up _) (≼-trans (mul-mono (≼-trans (h .near) (mul-mono (near-down _) (≼-refl _))) (≼-refl ρ)) (rounds-form _ _ _)) };
+}
+
+-- ---- the upper r(k) against the exact one at t = 64: one factor for each rounding
+
+lift : (q ρ x : Frac) → q ⊗ x ⊗ ρ ≼ q ⊗ (ρ ⊗ x)
+unfolding _⊗_
+lift q ρ x = record { le = omega arith }
+
+over-exact : Within value (round true 32) same same (Near ρ)
+unfolding _↑_
+over-exact = record {
+  same = λ q. near-of (≼-refl q);
+  more = λ l h. near-more one≼ρ l h;
+  plus = λ h k. near-plus h k;
+  times = λ h k. near-times h k;
+  share = λ n h. near-share n h;
+  rounds = λ h. record { near = ≼-trans (near-up _) (≼-trans (mul-mono (h .near) (≼-refl ρ)) (lift _ _ _)) };
+}
+
+-- 2 × 64^256/256!, with 1,280 roundings upwards, is at most 2^-31
+tiny : whole 2 ⊗ (powers same same (whole 1) (whole 64) 256 .r ⊗ ρ ↑ 1280) ≼ 1 over (2 ^ 31)
+unfolding powers next-power div mul add slack whole _over_ _⊗_ _÷_ _↑_ IsLe
+tiny = record { le = le-by-compare _ _ tt }
+
+split : (q : Frac) → q ⊕ q ⊗ (1 over (2 ^ 31)) ≼ q ⊗ ρ
+unfolding slack _over_ _⊕_ _⊗_
+split q = record { le = omega arith }
+
+swap : (p q : Frac) → p ⊗ q ≼ q ⊗ p
+unfolding _⊗_
+swap p q = record { le = omega arith }
+
+one-form : (q : Frac) → q ≼ whole 1 ⊗ q
+unfolding _⊗_ whole
+one-form q = record { le = omega arith }
+
+one≼powers : (E : Encounter) (k : ℕ) → whole 1 ≼ value (side-powers true E k .sum)
+unfolding side-powers powers next-power add
+one≼powers E zero = ≽-of one-is
+one≼powers E (suc k) = ≼-trans (one≼powers E k) (≼-trans (drop-last _ _) (up _))
+
+module _ (E : Encounter) (t≤ : value (side-letters true E .t) ≼ whole 64) where
+  r-near : Near ρ 1280 (value (side-powers true E 256 .r)) (powers same same (whole 1) (whole 64) 256 .r)
+  unfolding side-powers
+  r-near =
+      powers-close value (round true 32) same same (Near ρ) over-exact one _ (whole 1) (whole 64)
+      (near-of (≼-of one-is))
+      (near-more one≼ρ (omega arith) (near-of t≤)) 256 .r
+
+  -- 2r(256) is within one rounding of the exponential's sum
+  small : value (side-powers true E 255 .sum) ⊕ whole 2 ⊗ value (side-powers true E 256 .r) ≼ value (side-powers true E 255 .sum) ⊗ ρ
+  small =
+      ≼-trans (add-mono (≼-refl _)
+      (≼-trans (mul-mono (≼-refl (whole 2)) (r-near .near))
+      (≼-trans tiny (≼-trans (one-form _) (mul-mono (one≼powers E 255) (≼-refl _))))))
+      (split _)
+
+-- ---- the two ends
+
+module _ (E : Encounter) where
+  letters-near : Close-letters value (round true 32) value (round false 32) (Near (ρ ⊗ ρ)) close (side-letters true E) (side-letters false E)
+  unfolding side-letters
+  letters-near = letters-close value (round true 32) value (round false 32) (Near (ρ ⊗ ρ)) close E
+
+  sum-near : (n : ℕ) → value (side-terms true E n .sum) ≼ value (side-terms false E n .sum) ⊗ (ρ ⊗ ρ) ↑ (9 * n + 1)
+  unfolding side-terms
+  sum-near n = terms-close value (round true 32) value (round false 32) (Near (ρ ⊗ ρ)) close _ _ letters-near n .sum .near
+
+  powers-near : value (side-powers true E 255 .sum) ≼ value (side-powers false E 255 .sum) ⊗ (ρ ⊗ ρ) ↑ 1276
+  unfolding side-powers
+  powers-near = powers-close value (round true 32) value (round false 32) (Near (ρ ⊗ ρ)) close one _ one _ (close .same (value one)) (letters-near .t) 255 .sum .near
+
+-- (p × q) / q
+mul-quot : (p q : Frac) → 0 < q .num → (p ⊗ q) ⊘ q ≼ p
+unfolding _⊗_ _⊘_
+mul-quot p q l = record { le = rw (suc-pred-eq-of-pos l) (omega arith) }
+
+cube : Frac → Frac
+cube r = r ⊗ r ⊗ r
+
+gather : (L r B z : Frac) → L ⊗ r ⊗ (B ⊗ z ⊗ r ⊗ r) ≼ L ⊗ (z ⊗ cube r) ⊗ B
+unfolding _⊗_ cube
+gather L r B z = record { le = omega arith }
+
+gather-more : (L q B w r : Frac) → L ⊗ q ⊗ B ⊗ w ⊗ r ⊗ r ≼ L ⊗ (w ⊗ q ⊗ (r ⊗ r)) ⊗ B
+unfolding _⊗_
+gather-more L q B w r = record { le = omega arith }
+
+last : (L w z s r : Frac) → L ⊗ (w ⊗ (z ⊗ s) ⊗ (r ⊗ r)) ⊗ r ≼ L ⊗ (w ⊗ z ⊗ (s ⊗ cube r))
+unfolding _⊗_ cube
+last L w z s r = record { le = omega arith }
+
+six : (r : Frac) → cube r ⊗ cube r ≼ (r ⊗ r) ↑ 3
+unfolding _⊗_ _↑_ cube whole
+six r = record { le = omega arith }
+
+module _ (E : Encounter) (t≤ : value (side-letters true E .t) ≼ whole 64) (n : ℕ) (T≤ : tail-bound E (suc n) ≼ (1 over (2 ^ 31)) ⊗ value (sum-to false E (suc n))) where
+  A : Frac
+  A = value (sum-to false E (suc n))
+
+  B : Frac
+  B = value (lower-exponential E)
+
+  w : Frac
+  w = (ρ ⊗ ρ) ↑ (9 * n + 1)
+
+  z : Frac
+  z = (ρ ⊗ ρ) ↑ 1276
+
+  B-pos : 0 < B .num
+  unfolding B lower-exponential
+  B-pos = lower-powers-pos E 255
+
+  -- the upper numerator is at most the lower sum × w × ρ × ρ
+  numerator : value (U (value (sum-to true E (suc n)) ⊕ tail-bound E (suc n))) ≼ A ⊗ w ⊗ ρ ⊗ ρ
+  unfolding A w sum-to
+  numerator =
+      let grown : A ≼ A ⊗ w = grow A w (one-le-pow (9 * n + 1) one≼ρρ) in
+      let T′ : tail-bound E (suc n) ≼ A ⊗ w ⊗ (1 over (2 ^ 31)) = ≼-trans T≤ (≼-trans (swap _ A) (mul-mono grown (≼-refl _))) in
+      ≼-trans (near-up _) (mul-mono (≼-trans (add-mono (sum-near E n) T′) (split (A ⊗ w))) (≼-refl ρ))
+
+  -- the upper exponential is at most the lower × z × ρ × ρ
+  G-le : value (upper-exponential E) ≼ B ⊗ z ⊗ ρ ⊗ ρ
+  unfolding B z upper-exponential lower-exponential
+  G-le = ≼-trans (near-up _) (mul-mono (≼-trans (small E t≤) (mul-mono (powers-near E) (≼-refl ρ))) (≼-refl ρ))
+
+  G-pos : 0 < value (upper-exponential E) .num
+  unfolding B lower-exponential upper-exponential
+  G-pos = num-pos (≼-trans (lower-powers-le E 255) (≼-trans (le-upper-powers E 255) (≼-trans (drop-last _ _) (up _)))) B-pos
+
+  -- the lower sum is at most the lower end × ρ × the upper exponential
+  A-le : A ≼ value (lower-end E (suc n)) ⊗ ρ ⊗ (B ⊗ z ⊗ ρ ⊗ ρ)
+  unfolding A lower-end
+  A-le = ≼-trans (≽-of (quot-mul _ _ G-pos)) (mul-mono (near-down _) G-le)
+
+  upper-le : value (upper-end E (suc n)) ≼ value (lower-end E (suc n)) ⊗ (w ⊗ z ⊗ (ρ ⊗ ρ) ↑ 3)
+  unfolding upper-end B
+  upper-le =
+      let L = value (lower-end E (suc n)) in
+      let A′ : A ≼ L ⊗ (z ⊗ cube ρ) ⊗ B = ≼-trans A-le (gather L ρ B z) in
+      let n≤ : value (U (value (sum-to true E (suc n)) ⊕ tail-bound E (suc n))) ≼ L ⊗ (w ⊗ (z ⊗ cube ρ) ⊗ (ρ ⊗ ρ)) ⊗ B =
+      ≼-trans numerator (≼-trans (mul-mono (mul-mono (mul-mono A′ (≼-refl w)) (≼-refl ρ)) (≼-refl ρ)) (gather-more L (z ⊗ cube ρ) B w ρ)) in
+      ≼-trans (near-up _)
+      (≼-trans (mul-mono (≼-trans (quot-mono n≤ (≼-refl _) B-pos) (mul-quot _ B B-pos)) (≼-refl ρ))
+      (≼-trans (last L w z (cube ρ) ρ) (mul-mono (≼-refl L) (mul-mono (≼-refl (w ⊗ z)) (six ρ)))))
+
+  weight : w ⊗ z ⊗ (ρ ⊗ ρ) ↑ 3 ≼ ρ ↑ (18 * suc n + 2600)
+  unfolding w z
+  weight =
+      ≼-trans (mul-mono (≽-of (pow-add (ρ ⊗ ρ) (9 * n + 1) 1276)) (≼-refl _))
+      (≼-trans (≽-of (pow-add (ρ ⊗ ρ) (9 * n + 1 + 1276) 3)) (≼-trans (≼-of (pow-square ρ (9 * n + 1 + 1276 + 3))) (pow-more one≼ρ (omega arith))))
+
+-- Closeness, in demand 3's words: where the tail bound is at most 2^-31 of the lower sum, upper end ≤ lower end × (1 + 2^-31)^(18N + 2,600).
+pub ends-close : {E : Encounter} → Accepted E → (N : ℕ) → 1 ≤ N → tail-bound E N ≼ (1 over (2 ^ 31)) ⊗ value (sum-to false E N)
+    → value (upper-end E N) ≼ value (lower-end E N) ⊗ slack 31 ↑ (18 * N + 2600)
+ends-close h zero N₁ T≤ = let f : ⊥ = omega arith in absurd f
+ends-close {E} h (suc n) N₁ T≤ = ≼-trans (upper-le E (facts h .t-max) n T≤) (mul-mono (≼-refl _) (weight E (facts h .t-max) n T≤))

@@ -1,0 +1,206 @@
+-- The enclosure: for every accepted encounter, every order N with 2M ≤ N + 2 and every later cut of the two exact sums, their quotient lies between the ends.
+use mathlib.Core.Path.{_≡_, refl}
+use mathlib.Core.Bool.{true, false}
+use Prim.Native.Nat.{ℕ, zero, suc, _+_, _*_, _≤_, _<_}
+use native.Mathlib.Nat.{le-dest, add-suc, add-zero as plus-zero, mul-le-mul-left, lt-of-mul-lt-mul-right}
+use native.Mathlib.Numerals.{add-two}
+use native.Mathlib.Omega.{arith}
+use lib.Dec.{lit<}
+use Rattle.exact.specs.Fraction.{Frac, _≼_, _≈_, _⊕_, _⊗_, _÷_, _⊘_, _↑_, _over_, whole, sum}
+use Rattle.exact.specs.Scaled.{value}
+use Rattle.exact.specs.Rounding.{D, U, round, slack}
+use Rattle.exact.specs.Encounter.{Encounter, u, g, h, X, Y, t, a₀}
+use Rattle.exact.specs.Series.{factorial, power-term, series, exponential}
+use Rattle.exact.specs.Steps.{Letters, add, powers, next-power, bound, tail-term, next-d, mul, div}
+use Rattle.exact.specs.Bracket.{one, side-letters, side-terms, side-powers, sum-to, M, d, tail-bound, upper-exponential, lower-exponential, lower-end, upper-end, readable}
+use Rattle.exact.specs.Accepted.{Accepted}
+use Rattle.exact.proofs.Fractions.{≼-refl, ≼-trans, ≼-of, ≽-of, add-mono, mul-mono, div-mono, num-pos, quot-mono}
+use Rattle.exact.proofs.Rounding.{round-is, round-close}
+use Rattle.exact.proofs.Order.{at-most-holds}
+use Rattle.exact.proofs.Unrounded.{same, exact-letters, letters-are, sum-is, powers-are}
+use Rattle.exact.proofs.Majorant.{m, exact-d, series-tail, exponential-tail}
+use Rattle.exact.proofs.Parallel.{Within, Close-letters, letters-close, terms-close, bound-close, tail-close, powers-close}
+use Rattle.exact.proofs.Accepted.{facts}
+
+-- ---- D stays below, U above
+
+pub down : (q : Frac) → value (D q) ≼ q
+down q = round-is false 32 q (lit< tt) .side
+
+pub up : (q : Frac) → q ≼ value (U q)
+up q = round-is true 32 q (lit< tt) .side
+
+pub below : Within value (round false 32) same same (λ w p q. p ≼ q)
+below = record {
+  same = ≼-refl;
+  more = λ l h. h;
+  plus = λ h k. add-mono h k;
+  times = λ h k. mul-mono h k;
+  share = λ n h. div-mono n h;
+  rounds = λ h. ≼-trans (down _) h;
+}
+
+pub above : Within same same value (round true 32) (λ w p q. p ≼ q)
+above = record {
+  same = ≼-refl;
+  more = λ l h. h;
+  plus = λ h k. add-mono h k;
+  times = λ h k. mul-mono h k;
+  share = λ n h. div-mono n h;
+  rounds = λ h. ≼-trans h (up _);
+}
+
+pub one-is : value one ≈ whole 1
+unfolding value whole
+one-is = record { eq = refl }
+
+-- ---- sums cut later are no less
+
+pub drop-last : (s t : Frac) → s ≼ s ⊕ t
+unfolding _⊕_
+drop-last s t = record { le = omega arith }
+
+sum-more : (f : ℕ → Frac) (n j : ℕ) → sum f n ≼ sum f (n + j)
+unfolding sum
+sum-more f n zero = rw plus-zero (≼-refl _)
+sum-more f n (suc j) = rw add-suc (≼-trans (sum-more f n j) (drop-last _ _))
+
+sum-longer : (f : ℕ → Frac) (n n′ : ℕ) → n ≤ n′ → sum f n ≼ sum f n′
+sum-longer f n n′ l = let (j, q) = le-dest l in rw (← q) (sum-more f n j)
+
+one-pos : 0 < (whole 1) .num
+unfolding whole
+one-pos = lit< tt
+
+pub exponential-pos : (E : Encounter) (K : ℕ) → 0 < K → 0 < (exponential E K) .num
+unfolding exponential
+exponential-pos E K l = num-pos (≼-trans first (sum-longer (power-term (t E)) 1 K l)) one-pos
+  where
+    first : whole 1 ≼ sum (power-term (t E)) 1
+    first = unfold sum power-term _↑_ factorial _⊕_ _÷_ whole in record { le = omega arith }
+
+-- g is at most 1, so h is at most u
+shrink : (u g : Frac) → g .num ≤ g .den → u ⊗ g ≼ u
+unfolding _⊗_
+shrink u g l = record { le = omega (arith, mul-le-mul-left (u .num * u .den) l) }
+
+h-le-u : (E : Encounter) → h E ≼ u E
+unfolding h g _over_
+h-le-u E = shrink (u E) (g E) (omega arith)
+
+-- the majorant's terms by the steps with no rounding
+unrounded-d : (l : Letters Frac) (M : Frac) (n : ℕ) → exact-d (l .c₀) M n ≼ tail-term same same l M n
+unfolding exact-d tail-term next-d mul div
+unrounded-d l M zero = ≼-refl _
+unrounded-d l M (suc n) = div-mono (suc (suc n)) (mul-mono (unrounded-d l M n) (≼-refl M))
+
+-- D of what is above 0 is above 0
+factor-pos : (p q : Frac) → 0 < (p ⊗ q) .num → 0 < p .num
+unfolding _⊗_
+factor-pos p q l = lt-of-mul-lt-mul-right (q .num) {m = 0} (omega arith)
+
+pub down-pos : (q : Frac) → 0 < q .num → 0 < value (D q) .num
+down-pos q l = factor-pos _ (slack 31) (num-pos (round-close false 31 q .below) l)
+
+pub lower-powers-pos : (E : Encounter) (k : ℕ) → 0 < value (side-powers false E k .sum) .num
+unfolding side-powers powers next-power add
+lower-powers-pos E zero = num-pos (≽-of one-is) one-pos
+lower-powers-pos E (suc k) = down-pos _ (num-pos (drop-last _ _) (lower-powers-pos E k))
+
+-- ---- each side against the exact series
+
+module _ (E : Encounter) where
+  pub lower-letters : Close-letters value (round false 32) same same (λ w p q. p ≼ q) below (side-letters false E) (exact-letters E)
+  unfolding side-letters
+  lower-letters = rw (← letters-are E) (letters-close value (round false 32) same same (λ w p q. p ≼ q) below E)
+
+  pub upper-letters : Close-letters same same value (round true 32) (λ w p q. p ≼ q) above (exact-letters E) (side-letters true E)
+  unfolding side-letters
+  upper-letters = rw (← letters-are E) (letters-close same same value (round true 32) (λ w p q. p ≼ q) above E)
+
+  lower-sum-le : (n : ℕ) → value (side-terms false E n .sum) ≼ series E (suc n)
+  unfolding side-terms series
+  lower-sum-le n =
+      ≼-trans (terms-close value (round false 32) same same (λ w p q. p ≼ q) below _ _ lower-letters n .sum)
+      (≼-of (sum-is (u E) (h E) (X E) (Y E) (a₀ E) (t E) n))
+
+  le-upper-sum : (n : ℕ) → series E (suc n) ≼ value (side-terms true E n .sum)
+  unfolding side-terms series
+  le-upper-sum n =
+      ≼-trans (≽-of (sum-is (u E) (h E) (X E) (Y E) (a₀ E) (t E) n))
+      (terms-close same same value (round true 32) (λ w p q. p ≼ q) above _ _ upper-letters n .sum)
+
+  pub lower-powers-le : (k : ℕ) → value (side-powers false E k .sum) ≼ exponential E (suc k)
+  unfolding side-powers exponential
+  lower-powers-le k =
+      ≼-trans (powers-close value (round false 32) same same (λ w p q. p ≼ q) below one _ (whole 1) (t E) (≼-of one-is) (lower-letters .t) k .sum)
+      (≼-of (powers-are (t E) k .sum-is))
+
+  pub le-upper-powers : (k : ℕ) → exponential E (suc k) ≼ value (side-powers true E k .sum)
+  unfolding side-powers exponential
+  le-upper-powers k =
+      ≼-trans (≽-of (powers-are (t E) k .sum-is))
+      (powers-close same same value (round true 32) (λ w p q. p ≼ q) above (whole 1) (t E) one _ (≽-of one-is) (upper-letters .t) k .sum)
+
+  le-upper-r : (k : ℕ) → power-term (t E) k ≼ value (side-powers true E k .r)
+  unfolding side-powers
+  le-upper-r k =
+      ≼-trans (≽-of (powers-are (t E) k .r-is))
+      (powers-close same same value (round true 32) (λ w p q. p ≼ q) above (whole 1) (t E) one _ (≽-of one-is) (upper-letters .t) k .r)
+
+  m-le-M : m (u E) (h E) (X E) (Y E) ≼ value (M E)
+  unfolding M m bound add
+  m-le-M = bound-close same same value (round true 32) (λ w p q. p ≼ q) above _ _ upper-letters
+
+  le-d : (N : ℕ) → exact-d (a₀ E) (value (M E)) N ≼ value (d E N)
+  unfolding d
+  le-d N = ≼-trans (unrounded-d (exact-letters E) (value (M E)) N) (tail-close same same value (round true 32) (λ w p q. p ≼ q) above _ _ upper-letters (value (M E)) (M E) (≼-refl _) N)
+
+  -- ---- later cuts
+
+  series-longer : (n N′ : ℕ) → n ≤ N′ → series E n ≼ series E N′
+  unfolding series
+  series-longer n N′ l = sum-longer _ n N′ l
+
+  exponential-longer : (K : ℕ) → 256 ≤ K → exponential E 256 ≼ exponential E K
+  unfolding exponential
+  exponential-longer K l = sum-longer _ 256 K l
+
+  series-bound : (N N′ : ℕ) → whole 2 ⊗ value (M E) ≼ whole (suc (suc N)) → N ≤ N′ → series E N′ ≼ series E N ⊕ tail-bound E N
+  unfolding series tail-bound
+  series-bound N N′ l k =
+      ≼-trans (series-tail (u E) (h E) (X E) (Y E) (a₀ E) (value (M E)) (h-le-u E) m-le-M N l N′ k) (add-mono (≼-refl _) (mul-mono (≼-refl (whole 2)) (le-d N)))
+
+  exponential-bound : (K : ℕ) → 256 ≤ K → value (side-letters true E .t) ≼ whole 64 → exponential E K ≼ exponential E 256 ⊕ whole 2 ⊗ value (side-powers true E 256 .r)
+  unfolding exponential
+  exponential-bound K l t≤ = ≼-trans (exponential-tail (t E) (≼-trans (upper-letters .t) t≤) K l) (add-mono (≼-refl _) (mul-mono (≼-refl (whole 2)) (le-upper-r 256)))
+
+  -- ---- the quotient between the ends
+
+  module _ (n N′ K : ℕ) (N≤ : suc n ≤ N′) (K≤ : 256 ≤ K) where
+    lower-end-le : value (side-letters true E .t) ≼ whole 64 → value (lower-end E (suc n)) ≼ series E N′ ⊘ exponential E K
+    unfolding lower-end sum-to upper-exponential
+    lower-end-le t≤ =
+        ≼-trans (down _)
+        (quot-mono (≼-trans (lower-sum-le n) (series-longer (suc n) N′ N≤))
+        (≼-trans (exponential-bound K K≤ t≤) (≼-trans (add-mono (le-upper-powers 255) (≼-refl _)) (up _)))
+        (exponential-pos E K (omega arith)))
+
+    le-upper-end : whole 2 ⊗ value (M E) ≼ whole (suc (suc (suc n))) → series E N′ ⊘ exponential E K ≼ value (upper-end E (suc n))
+    unfolding upper-end sum-to lower-exponential
+    le-upper-end M≤ =
+        ≼-trans
+        (quot-mono
+        (≼-trans (series-bound (suc n) N′ M≤ N≤) (≼-trans (add-mono (le-upper-sum n) (≼-refl _)) (up _)))
+        (≼-trans (lower-powers-le 255) (exponential-longer K K≤))
+        (lower-powers-pos E 255))
+        (up _)
+
+-- The enclosure. N ≥ 1 is any order with 2M ≤ N + 2; N′ and K are the two later cuts, chosen independently.
+pub enclosed : {E : Encounter} → Accepted E → (N : ℕ) → 1 ≤ N → readable E N ≡ true → (N′ K : ℕ) → N ≤ N′ → 256 ≤ K
+    → (value (lower-end E N) ≼ series E N′ ⊘ exponential E K) × (series E N′ ⊘ exponential E K ≼ value (upper-end E N))
+enclosed h zero N₁ r N′ K l k = let f : ⊥ = omega arith in absurd f
+enclosed {E} h (suc n) N₁ r N′ K l k = (lower-end-le E n N′ K l k (facts h .t-max), le-upper-end E n N′ K l k M≤)
+  where
+    M≤ : whole 2 ⊗ value (M E) ≼ whole (suc (suc (suc n)))
+    M≤ = rw add-two at (at-most-holds (whole 2 ⊗ value (M E)) (whole (suc n + 2)) (unfold readable in r))

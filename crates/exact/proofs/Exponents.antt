@@ -1,0 +1,154 @@
+-- Every exponent that the steps reach: at index n within 700n + 400, so far inside an i32 for every accepted encounter and every order to 4,096.
+use mathlib.Core.Path.{_≡_}
+use mathlib.Core.Bool.{Bool}
+use Prim.Native.Nat.{ℕ, zero, suc, _+_, _-_, _*_, _^_, _≤_, _<_}
+use native.Mathlib.Nat.{mul-le-mul, mul-pos, zero-lt-suc}
+use native.Mathlib.Omega.{arith}
+use lib.Dec.{lit<}
+use lib.IntN.{natAbs}
+use Rattle.exact.specs.declared.Scaled.{Scaled}
+use Rattle.exact.specs.Fraction.{_⊕_, _÷_, _over_}
+use Rattle.exact.specs.Scaled.{value, InRange}
+use Rattle.exact.specs.Rounding.{round}
+use Rattle.exact.specs.Encounter.{Encounter, square, u, b, zx, zy, g, a₀}
+use Rattle.exact.specs.Steps.{Letters, Terms, Powers, add, mul, div, letters, first, next-c, next-p, next-v, next-y, next, terms, bound, next-d, tail-term, next-power, powers}
+use Rattle.exact.proofs.Order.{sum-half}
+use Rattle.exact.proofs.Ranges.{widen, product-range, sum-range, over-range, ratio-range, half-range}
+use Rattle.exact.proofs.Accepted.{Facts}
+
+module _ (up : Bool) where
+  add-in : {A : ℕ} {x y : Scaled} → InRange 32 A x → InRange 32 A y → InRange 32 (A + 1 + 1) (add value (round up 32) x y)
+  unfolding add
+  add-in h k = sum-range up 32 (lit< tt) h k
+
+  mul-in : {A B : ℕ} {x y : Scaled} → InRange 32 A x → InRange 32 B y → InRange 32 (A + B + 32 + 1) (mul value (round up 32) x y)
+  unfolding mul
+  mul-in h k = product-range up 32 (lit< tt) h k
+
+  div-in : {A : ℕ} {x : Scaled} (k : ℕ) → 0 < k → k ≤ 2 ^ 32 → InRange 32 A x → InRange 32 (A + 32 + 1) (div value (round up 32) x k)
+  unfolding div
+  div-in k p l h = over-range up 32 (lit< tt) k p l h
+
+  half-in : {A : ℕ} {x y : Scaled} → InRange 32 A x → InRange 32 A y → InRange 32 (A + 1 + 1 + 1) (round up 32 (value x ⊕ value y ÷ 2))
+  half-in {A} {x} {y} h k = rw (sum-half up 32 x y (lit< tt)) (sum-range up 32 (lit< tt) (widen (omega arith) h) (half-range k))
+
+  -- ---- the letters
+
+  pub record Letters-in (l : Letters Scaled) : Type 0 where
+    pub u : InRange 32 177 (l .u)
+    pub h : InRange 32 387 (l .h)
+    pub X : InRange 32 387 (l .X)
+    pub Y : InRange 32 387 (l .Y)
+    pub t : InRange 32 387 (l .t)
+    pub c₀ : InRange 32 177 (l .c₀)
+
+  module _ (l : Letters Scaled) (i : Letters-in l) where
+    -- ---- the terms
+
+    pub record Terms-in (B : ℕ) (s : Terms Scaled) : Type 0 where
+      pub c : InRange 32 B (s .c)
+      pub p : InRange 32 B (s .p)
+      pub v : InRange 32 B (s .v)
+      pub y : InRange 32 B (s .y)
+      pub sum : InRange 32 B (s .sum)
+
+    -- the divisors fit
+    small : (n : ℕ) → n < 4096 → suc n * suc (suc n) ≤ 2 ^ 32
+    small n h =
+        let a : suc n ≤ 4096 = h in
+        let b : suc (suc n) ≤ 4097 = omega arith in
+        omega (arith, mul-le-mul a b)
+
+    c-in : (B n : ℕ) {s : Terms Scaled} → n < 4096 → Terms-in B s → InRange 32 (B + 460) (next-c value (round up 32) l n s)
+    unfolding next-c
+    c-in B n {s} nl k =
+        widen (omega arith)
+        (div-in (suc n * suc (suc n)) (mul-pos (zero-lt-suc n) (zero-lt-suc (suc n))) (small n nl)
+        (add-in
+        (widen {B = B + 425} (omega arith) (add-in
+        (widen {B = B + 423} (omega arith) (half-in (widen {B = B + 420} (omega arith) (k .p)) (widen (omega arith) (mul-in (i .h) (k .v)))))
+        (widen (omega arith) (mul-in (i .X) (k .y)))))
+        (widen (omega arith) (mul-in (i .Y) (k .c)))))
+
+    next-in : (B n : ℕ) {s : Terms Scaled} → n < 4096 → Terms-in B s → Terms-in (B + 700) (next value (round up 32) l n s)
+    unfolding next next-p next-v next-y
+    next-in B n {s} nl k =
+        let c = c-in B n nl k in
+        let kl : suc (suc n) ≤ 2 ^ 32 = omega arith in
+        let kp = zero-lt-suc (suc n) in
+        let v = add-in c (widen {B = B + 460} (omega arith) (div-in (suc (suc n)) kp kl (mul-in (i .h) (k .v)))) in
+        record {
+          c = widen (omega arith) c;
+          p = widen (omega arith) (mul-in (i .u) (add-in c (widen {B = B + 460} (omega arith) (div-in (suc (suc n)) kp kl (k .p)))));
+          v = widen (omega arith) v;
+          y = widen (omega arith) (add-in v (widen {B = B + 460 + 1 + 1} (omega arith) (div-in (suc (suc n)) kp kl (mul-in (i .h) (k .y)))));
+          sum = widen (omega arith) (add-in (widen {B = B + 460} (omega arith) (k .sum)) c);
+        }
+
+    pub terms-in : (n : ℕ) → n ≤ 4096 → Terms-in (700 * n + 400) (terms value (round up 32) l n)
+    unfolding terms first
+    terms-in zero nl =
+        let c₀ = widen {B = 400} (omega arith) (i .c₀) in
+        record { c = c₀; p = widen (omega arith) (mul-in (i .u) (i .c₀)); v = c₀; y = c₀; sum = c₀ }
+    terms-in (suc n) nl = rw (← step n) (next-in (700 * n + 400) n nl (terms-in n (omega arith)))
+      where
+        step : (n : ℕ) → 700 * n + 400 + 700 ≡ 700 * suc n + 400
+        step n = omega arith
+
+    -- ---- M and d(n)
+
+    pub bound-in : InRange 32 400 (bound value (round up 32) l)
+    unfolding bound
+    bound-in =
+        widen (omega arith)
+        (add-in (add-in (half-in (widen {B = 387} (omega arith) (i .u)) (i .h)) (widen {B = 387 + 1 + 1 + 1} (omega arith) (i .X))) (widen {B = 387 + 1 + 1 + 1 + 1 + 1} (omega arith) (i .Y)))
+
+    pub tail-in : (M : Scaled) → InRange 32 400 M → (n : ℕ) → n ≤ 4096 → InRange 32 (700 * n + 400) (tail-term value (round up 32) l M n)
+    unfolding tail-term next-d
+    tail-in M m zero nl = widen (omega arith) (i .c₀)
+    tail-in M m (suc n) nl = widen (omega arith) (div-in (suc (suc n)) (zero-lt-suc (suc n)) (omega arith) (mul-in (tail-in M m n (omega arith)) m))
+
+  -- ---- r(k) and its sum
+
+  pub record Powers-in (B : ℕ) (w : Powers Scaled) : Type 0 where
+    pub r : InRange 32 B (w .r)
+    pub sum : InRange 32 B (w .sum)
+
+  pub powers-in : (one t : Scaled) → InRange 32 400 one → InRange 32 387 t → (k : ℕ) → k ≤ 4096 → Powers-in (700 * k + 400) (powers value (round up 32) one t k)
+  unfolding powers next-power
+  powers-in one t o i zero kl = record { r = o; sum = o }
+  powers-in one t o i (suc k) kl =
+      let q = powers-in one t o i k (omega arith) in
+      let r = div-in (suc k) (zero-lt-suc k) (omega arith) (mul-in (q .r) i) in
+      record { r = widen (omega arith) r; sum = widen (omega arith) (add-in (widen {B = 700 * k + 400 + 387 + 32 + 1 + 32 + 1} (omega arith) (q .sum)) r) }
+
+  -- ---- an accepted encounter's letters
+
+  square-max : (n : ℕ) → n ≤ 10000000 → n * n < 2 ^ 48
+  square-max n l = omega (arith, mul-le-mul l l)
+
+  ratio-in : (n d : ℕ) → n < 2 ^ 48 → d < 2 ^ 48 → 0 < d → InRange 32 177 (round up 32 (n over d))
+  ratio-in n d nl dl dp = ratio-range up 32 (lit< tt) 48 n d nl dl dp
+
+  pub letters-in : {E : Encounter} → Facts E → Letters-in (letters value (round up 32) E)
+  unfolding letters u b zx zy g a₀ square
+  letters-in {E} f =
+      let R = square-max (E .R) (f .R-max) in
+      let x = mul-le-mul (f .sx-max) (f .sx-max) in
+      let y = mul-le-mul (f .sy-max) (f .sy-max) in
+      let xy = mul-le-mul (f .sx-max) (f .sy-max) in
+      let xp = mul-pos (f .sx-pos) (f .sx-pos) in
+      let yp = mul-pos (f .sy-pos) (f .sy-pos) in
+      let u = ratio-in (E .R * E .R) (2 * (E .sy * E .sy)) R (omega arith) (omega arith) in
+      let b = ratio-in (E .R * E .R) (2 * (E .sx * E .sx)) R (omega arith) (omega arith) in
+      let zx = ratio-in (square (E .xm)) (2 * (E .sx * E .sx)) (square-max (natAbs (E .xm)) (f .xm-max)) (omega arith) (omega arith) in
+      let zy = ratio-in (square (E .ym)) (2 * (E .sy * E .sy)) (square-max (natAbs (E .ym)) (f .ym-max)) (omega arith) (omega arith) in
+      let g = ratio-in (E .sx * E .sx - E .sy * E .sy) (E .sx * E .sx) (omega arith) (omega arith) xp in
+      record {
+        u = u;
+        h = mul-in u g;
+        X = mul-in zx b;
+        Y = mul-in zy u;
+        t = widen (omega arith) (add-in (add-in zx zy) (widen {B = 177 + 1 + 1} (omega arith) u));
+        c₀ = ratio-in (E .R * E .R) (2 * (E .sx * E .sy)) R (omega arith) (omega (arith, mul-pos (f .sx-pos) (f .sy-pos)));
+      }

@@ -1,0 +1,50 @@
+-- A miss counts by its square: an encounter on the other side of an axis has the same letters, and so the same ends at every order.
+use mathlib.Core.Path.{_≡_, refl, ap}
+use mathlib.Core.Bool.{Bool, true, false}
+use Prim.Native.Nat.{ℕ, zero, suc, pred}
+use lib.IntN.{ℤ, pos, negsuc, negℤ}
+use Rattle.exact.specs.declared.Scaled.{Scaled}
+use Rattle.exact.specs.Scaled.{value}
+use Rattle.exact.specs.Fraction.{whole, _⊕_, _⊗_, _⊘_}
+use Rattle.exact.specs.Rounding.{D, U, round}
+use Rattle.exact.specs.Encounter.{Encounter, square, u, b, zx, zy, g, a₀}
+use Rattle.exact.specs.Steps.{Letters, Powers, letters, terms, powers, bound, tail-term}
+use Rattle.exact.specs.Bracket.{one, side-letters, side-terms, side-powers, sum-to, M, d, tail-bound, upper-exponential, lower-exponential, lower-end, upper-end}
+
+abbrev pub mirrored : Encounter → Encounter
+mirrored E = record { R = E .R; sx = E .sx; sy = E .sy; xm = negℤ (E .xm); ym = E .ym }
+
+ap₃ : {A B C S : Type 0} (f : A → B → C → S) {a a′ : A} {b b′ : B} {c c′ : C} → a ≡ a′ → b ≡ b′ → c ≡ c′ → f a b c ≡ f a′ b′ c′
+ap₃ f p q r = λ i. f (p i) (q i) (r i)
+
+square-neg : (z : ℤ) → square (negℤ z) ≡ square z
+unfolding square
+square-neg (pos zero) = refl
+square-neg (pos (suc n)) = refl
+square-neg (negsuc n) = refl
+
+pub letters-mirror : (up : Bool) (E : Encounter) → side-letters up (mirrored E) ≡ side-letters up E
+unfolding side-letters letters u b zx zy g a₀
+letters-mirror up E = rw (square-neg (E .xm))
+
+sum-mirror : (up : Bool) (E : Encounter) (N : ℕ) → sum-to up (mirrored E) N ≡ sum-to up E N
+unfolding sum-to side-terms
+sum-mirror up E N = ap (λ (l : Letters Scaled). terms value (round up 32) l (pred N) .sum) (letters-mirror up E)
+
+powers-mirror : (up : Bool) (E : Encounter) (k : ℕ) → side-powers up (mirrored E) k ≡ side-powers up E k
+unfolding side-powers
+powers-mirror up E k = ap (λ (l : Letters Scaled). powers value (round up 32) one (l .t) k) (letters-mirror up E)
+
+d-mirror : (E : Encounter) (N : ℕ) → d (mirrored E) N ≡ d E N
+unfolding d M
+d-mirror E N = ap (λ (l : Letters Scaled). tail-term value (round true 32) l (bound value (round true 32) l) N) (letters-mirror true E)
+
+pub lower-mirror : (E : Encounter) (N : ℕ) → lower-end (mirrored E) N ≡ lower-end E N
+unfolding lower-end upper-exponential
+lower-mirror E N =
+    ap₃ (λ (s : Scaled) (w r : Powers Scaled). D (value s ⊘ value (U (value (w .sum) ⊕ whole 2 ⊗ value (r .r))))) (sum-mirror false E N) (powers-mirror true E 255) (powers-mirror true E 256)
+
+pub upper-mirror : (E : Encounter) (N : ℕ) → upper-end (mirrored E) N ≡ upper-end E N
+unfolding upper-end lower-exponential tail-bound
+upper-mirror E N =
+    ap₃ (λ (s x : Scaled) (w : Powers Scaled). U (value (U (value s ⊕ whole 2 ⊗ value x)) ⊘ value (w .sum))) (sum-mirror true E N) (d-mirror E N) (powers-mirror false E 255)

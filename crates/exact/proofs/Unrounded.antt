@@ -1,0 +1,84 @@
+-- The steps with no rounding are the exact series and the exact exponential.
+use mathlib.Core.Path.{_≡_, refl}
+use Prim.Native.Nat.{ℕ, zero, suc}
+use Rattle.exact.specs.Fraction.{Frac, _≈_, _⊗_, _÷_, _↑_, whole, sum}
+use Rattle.exact.specs.Encounter.{Encounter, u, h, X, Y, t, a₀}
+use Rattle.exact.specs.Series.{factorial, c, power-term}
+use Rattle.exact.specs.Steps.{Letters, Terms, Powers, add, mul, div, letters, first, next-c, next-p, next-v, next-y, next, terms, next-power, powers}
+use Rattle.exact.proofs.Fractions.{≈-refl, ≈-sym, ≈-trans, cong, add-cong, mul-cong, div-cong, zero-add, mul-comm, div-mul}
+use Rattle.exact.proofs.ExactTerms.{p, v, y, p-zero, v-zero, y-zero, c-zero, p-suc, v-suc, y-suc, c-suc, factorial-step}
+
+-- a fraction is its own value, and no rounding leaves it
+abbrev pub same : Frac → Frac
+same q = q
+
+-- the exact letters of an encounter
+abbrev pub exact-letters : Encounter → Letters Frac
+exact-letters E = record { u = u E; h = h E; X = X E; Y = Y E; t = t E; c₀ = a₀ E }
+
+pub letters-are : (E : Encounter) → letters same same E ≡ exact-letters E
+unfolding letters mul add h X Y t
+letters-are E = refl
+
+module _ (u h X Y a₀ t : Frac) where
+  l : Letters Frac
+  l = record { u = u; h = h; X = X; Y = Y; t = t; c₀ = a₀ }
+
+  record Same (n : ℕ) (s : Terms Frac) : Type 0 where
+    c-is : s .c ≈ c u h X Y a₀ n
+    p-is : s .p ≈ p u h X Y a₀ n
+    v-is : s .v ≈ v u h X Y a₀ n
+    y-is : s .y ≈ y u h X Y a₀ n
+    sum-is : s .sum ≈ sum (c u h X Y a₀) (suc n)
+
+  next-is : (n : ℕ) (s : Terms Frac) → Same n s → Same (suc n) (next same same l n s)
+  unfolding next next-c next-p next-v next-y add mul div sum l
+  next-is n s k =
+      let c-ok : next-c same same l n s ≈ c u h X Y a₀ (suc n) = grw (cong, k .p-is, k .v-is, k .y-is, k .c-is) (≈-sym (c-suc u h X Y a₀ n)) in
+      let v-ok : next-v same same l n (next-c same same l n s) s ≈ v u h X Y a₀ (suc n) =
+      ≈-trans (add-cong c-ok (div-cong (suc (suc n)) (mul-cong (≈-refl h) (k .v-is)))) (≈-sym (v-suc u h X Y a₀ n)) in
+      record {
+        c-is = c-ok;
+        p-is = ≈-trans (mul-cong (≈-refl u) (add-cong c-ok (div-cong (suc (suc n)) (k .p-is)))) (≈-sym (p-suc u h X Y a₀ n));
+        v-is = v-ok;
+        y-is = ≈-trans (add-cong v-ok (div-cong (suc (suc n)) (mul-cong (≈-refl h) (k .y-is)))) (≈-sym (y-suc u h X Y a₀ n));
+        sum-is = add-cong (k .sum-is) c-ok;
+      }
+
+  terms-are : (n : ℕ) → Same n (terms same same l n)
+  unfolding terms first mul sum l
+  terms-are zero =
+      let e = c-zero u h X Y a₀ in
+      record {
+        c-is = e;
+        p-is = ≈-trans (mul-cong (≈-refl u) e) (≈-sym (p-zero u h X Y a₀));
+        v-is = ≈-trans e (≈-sym (v-zero u h X Y a₀));
+        y-is = ≈-trans e (≈-sym (y-zero u h X Y a₀));
+        sum-is = ≈-trans e (≈-sym (zero-add _));
+      }
+  terms-are (suc n) = next-is n _ (terms-are n)
+
+  pub sum-is : (n : ℕ) → terms same same (record { u = u; h = h; X = X; Y = Y; t = t; c₀ = a₀ }) n .sum ≈ sum (c u h X Y a₀) (suc n)
+  unfolding l
+  sum-is n = terms-are n .sum-is
+
+-- t^(k+1)/(k+1)! is t^k/k! × t/(k+1)
+pub power-step : (t : Frac) (k : ℕ) → power-term t (suc k) ≈ power-term t k ⊗ t ÷ suc k
+unfolding power-term _↑_
+power-step t k =
+    ≈-trans (factorial-step (t ⊗ t ↑ k) k) (div-cong (suc k) (≈-trans (≈-sym (div-mul t (t ↑ k) (factorial k))) (mul-comm t (t ↑ k ÷ factorial k))))
+
+pub record Same-powers (t : Frac) (k : ℕ) (w : Powers Frac) : Type 0 where
+  pub r-is : w .r ≈ power-term t k
+  pub sum-is : w .sum ≈ sum (power-term t) (suc k)
+
+one-is : (t : Frac) → whole 1 ≈ power-term t 0
+unfolding power-term _↑_ factorial _÷_ whole
+one-is t = record { eq = refl }
+
+pub powers-are : (t : Frac) (k : ℕ) → Same-powers t k (powers same same (whole 1) t k)
+unfolding powers next-power div mul add sum
+powers-are t zero = record { r-is = one-is t; sum-is = ≈-trans (one-is t) (≈-sym (zero-add _)) }
+powers-are t (suc k) =
+    let x : powers same same (whole 1) t k .r ⊗ t ÷ suc k ≈ power-term t (suc k) = grw (cong, powers-are t k .r-is) (≈-sym (power-step t k)) in
+    record { r-is = x; sum-is = add-cong (powers-are t k .sum-is) x }
