@@ -10,7 +10,7 @@ use Rattle.exact.specs.Scaled.{scaled, nought, value}
 use Rattle.exact.specs.Rounding.{D, U}
 use Rattle.exact.specs.Encounter.{Encounter, u, h, X, Y, t, a₀}
 use Rattle.exact.specs.Series.{c}
-use Rattle.exact.specs.Bracket.{side-letters, side-terms, M, tail-bound, lower-end, upper-end, readable}
+use Rattle.exact.specs.Bracket.{side-letters, side-start, side-terms, M, tail-bound, lower-end, upper-end, readable}
 use Rattle.exact.specs.Accepted.{begin-refusal}
 
 -- a case: what is computed, and what the paper says that it is
@@ -79,8 +79,8 @@ stars =
     ∷ fraction-is (c-of E₁ 2) (1 over 48)
     ∷ scaled-is (side-letters false E₁ .u) a-half
     ∷ scaled-is (side-letters true E₁ .u) a-half
-    ∷ scaled-is (side-letters false E₁ .c₀) a-half
-    ∷ scaled-is (side-letters true E₁ .c₀) a-half
+    ∷ scaled-is (side-start false E₁) a-half
+    ∷ scaled-is (side-start true E₁) a-half
     ∷ scaled-is (side-letters false E₁ .h) nought
     ∷ scaled-is (side-letters true E₁ .h) nought
     ∷ scaled-is (side-terms false E₁ 1 .c) an-eighth

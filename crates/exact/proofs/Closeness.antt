@@ -9,13 +9,13 @@ use Rattle.exact.specs.Scaled.{value}
 use Rattle.exact.specs.Rounding.{D, U, round, slack}
 use Rattle.exact.specs.Encounter.{Encounter}
 use Rattle.exact.specs.Steps.{add, mul, div, powers, next-power}
-use Rattle.exact.specs.Bracket.{one, side-letters, side-terms, side-powers, sum-to, tail-bound, upper-exponential, lower-exponential, lower-end, upper-end}
+use Rattle.exact.specs.Bracket.{one, side-letters, side-start, side-terms, side-powers, sum-to, tail-bound, upper-exponential, lower-exponential, lower-end, upper-end}
 use Rattle.exact.specs.Accepted.{Accepted}
 use Rattle.exact.proofs.Fractions.{≼-refl, ≼-trans, ≼-of, ≽-of, add-mono, mul-mono, num-pos, quot-mono, quot-mul}
 use Rattle.exact.proofs.Rounding.{round-close}
 use Rattle.exact.proofs.Powers.{Near, near-of, near-more, near-plus, near-times, near-share, pow-add, pow-square, pow-more, one-le-pow, grow}
 use Rattle.exact.proofs.Unrounded.{same}
-use Rattle.exact.proofs.Parallel.{Within, Close-letters, letters-close, terms-close, powers-close}
+use Rattle.exact.proofs.Parallel.{Within, Close-letters, letters-close, start-close, terms-close, powers-close}
 use Rattle.exact.proofs.Enclosure.{up, one-is, drop-last, lower-powers-pos, lower-powers-le, le-upper-powers}
 use Rattle.exact.proofs.Accepted.{facts}
 
@@ -115,9 +115,13 @@ module _ (E : Encounter) where
   unfolding side-letters
   letters-near = letters-close value (round true 32) value (round false 32) (Near (ρ ⊗ ρ)) close E
 
+  start-near : Near (ρ ⊗ ρ) 1 (value (side-start true E)) (value (side-start false E))
+  unfolding side-start
+  start-near = start-close value (round true 32) value (round false 32) (Near (ρ ⊗ ρ)) close E
+
   sum-near : (n : ℕ) → value (side-terms true E n .sum) ≼ value (side-terms false E n .sum) ⊗ (ρ ⊗ ρ) ↑ (9 * n + 1)
   unfolding side-terms
-  sum-near n = terms-close value (round true 32) value (round false 32) (Near (ρ ⊗ ρ)) close _ _ letters-near n .sum .near
+  sum-near n = terms-close value (round true 32) value (round false 32) (Near (ρ ⊗ ρ)) close _ _ letters-near start-near n .sum .near
 
   powers-near : value (side-powers true E 255 .sum) ≼ value (side-powers false E 255 .sum) ⊗ (ρ ⊗ ρ) ↑ 1276
   unfolding side-powers

@@ -11,15 +11,15 @@ use Rattle.exact.specs.Scaled.{value}
 use Rattle.exact.specs.Rounding.{D, U, round, slack}
 use Rattle.exact.specs.Encounter.{Encounter, u, g, h, X, Y, t, a₀}
 use Rattle.exact.specs.Series.{factorial, power-term, series, exponential}
-use Rattle.exact.specs.Steps.{Letters, add, powers, next-power, bound, tail-term, next-d, mul, div}
-use Rattle.exact.specs.Bracket.{one, side-letters, side-terms, side-powers, sum-to, M, d, tail-bound, upper-exponential, lower-exponential, lower-end, upper-end, readable}
+use Rattle.exact.specs.Steps.{add, start, powers, next-power, bound, tail-term, next-d, mul, div}
+use Rattle.exact.specs.Bracket.{one, side-letters, side-start, side-terms, side-powers, sum-to, M, d, tail-bound, upper-exponential, lower-exponential, lower-end, upper-end, readable}
 use Rattle.exact.specs.Accepted.{Accepted}
 use Rattle.exact.proofs.Fractions.{≼-refl, ≼-trans, ≼-of, ≽-of, add-mono, mul-mono, div-mono, num-pos, quot-mono}
 use Rattle.exact.proofs.Rounding.{round-is, round-close}
 use Rattle.exact.proofs.Order.{at-most-holds}
 use Rattle.exact.proofs.Unrounded.{same, exact-letters, letters-are, sum-is, powers-are}
 use Rattle.exact.proofs.Majorant.{m, exact-d, series-tail, exponential-tail}
-use Rattle.exact.proofs.Parallel.{Within, Close-letters, letters-close, terms-close, bound-close, tail-close, powers-close}
+use Rattle.exact.proofs.Parallel.{Within, Close-letters, letters-close, start-close, terms-close, bound-close, tail-close, powers-close}
 use Rattle.exact.proofs.Accepted.{facts}
 
 -- ---- D stays below, U above
@@ -89,10 +89,10 @@ unfolding h g _over_
 h-le-u E = shrink (u E) (g E) (omega arith)
 
 -- the majorant's terms by the steps with no rounding
-unrounded-d : (l : Letters Frac) (M : Frac) (n : ℕ) → exact-d (l .c₀) M n ≼ tail-term same same l M n
+unrounded-d : (c₀ M : Frac) (n : ℕ) → exact-d c₀ M n ≼ tail-term same same c₀ M n
 unfolding exact-d tail-term next-d mul div
-unrounded-d l M zero = ≼-refl _
-unrounded-d l M (suc n) = div-mono (suc (suc n)) (mul-mono (unrounded-d l M n) (≼-refl M))
+unrounded-d c₀ M zero = ≼-refl _
+unrounded-d c₀ M (suc n) = div-mono (suc (suc n)) (mul-mono (unrounded-d c₀ M n) (≼-refl M))
 
 -- D of what is above 0 is above 0
 factor-pos : (p q : Frac) → 0 < (p ⊗ q) .num → 0 < p .num
@@ -118,17 +118,25 @@ module _ (E : Encounter) where
   unfolding side-letters
   upper-letters = rw (← letters-are E) (letters-close same same value (round true 32) (λ w p q. p ≼ q) above E)
 
+  lower-start : value (side-start false E) ≼ a₀ E
+  unfolding side-start start
+  lower-start = start-close value (round false 32) same same (λ w p q. p ≼ q) below E
+
+  upper-start : a₀ E ≼ value (side-start true E)
+  unfolding side-start start
+  upper-start = start-close same same value (round true 32) (λ w p q. p ≼ q) above E
+
   lower-sum-le : (n : ℕ) → value (side-terms false E n .sum) ≼ series E (suc n)
   unfolding side-terms series
   lower-sum-le n =
-      ≼-trans (terms-close value (round false 32) same same (λ w p q. p ≼ q) below _ _ lower-letters n .sum)
+      ≼-trans (terms-close value (round false 32) same same (λ w p q. p ≼ q) below _ _ lower-letters lower-start n .sum)
       (≼-of (sum-is (u E) (h E) (X E) (Y E) (a₀ E) (t E) n))
 
   le-upper-sum : (n : ℕ) → series E (suc n) ≼ value (side-terms true E n .sum)
   unfolding side-terms series
   le-upper-sum n =
       ≼-trans (≽-of (sum-is (u E) (h E) (X E) (Y E) (a₀ E) (t E) n))
-      (terms-close same same value (round true 32) (λ w p q. p ≼ q) above _ _ upper-letters n .sum)
+      (terms-close same same value (round true 32) (λ w p q. p ≼ q) above _ _ upper-letters upper-start n .sum)
 
   pub lower-powers-le : (k : ℕ) → value (side-powers false E k .sum) ≼ exponential E (suc k)
   unfolding side-powers exponential
@@ -154,7 +162,7 @@ module _ (E : Encounter) where
 
   le-d : (N : ℕ) → exact-d (a₀ E) (value (M E)) N ≼ value (d E N)
   unfolding d
-  le-d N = ≼-trans (unrounded-d (exact-letters E) (value (M E)) N) (tail-close same same value (round true 32) (λ w p q. p ≼ q) above _ _ upper-letters (value (M E)) (M E) (≼-refl _) N)
+  le-d N = ≼-trans (unrounded-d (a₀ E) (value (M E)) N) (tail-close same same value (round true 32) (λ w p q. p ≼ q) above upper-start (≼-refl _) N)
 
   -- ---- later cuts
 

@@ -11,7 +11,7 @@ use Rattle.exact.specs.Fraction.{_⊕_, _÷_, _over_}
 use Rattle.exact.specs.Scaled.{value, InRange}
 use Rattle.exact.specs.Rounding.{round}
 use Rattle.exact.specs.Encounter.{Encounter, square, u, b, zx, zy, g, a₀}
-use Rattle.exact.specs.Steps.{Letters, Terms, Powers, add, mul, div, letters, first, next-c, next-p, next-v, next-y, next, terms, bound, next-d, tail-term, next-power, powers}
+use Rattle.exact.specs.Steps.{Letters, Terms, Powers, add, mul, div, letters, start, first, next-c, next-p, next-v, next-y, next, terms, bound, next-d, tail-term, next-power, powers}
 use Rattle.exact.proofs.Order.{sum-half}
 use Rattle.exact.proofs.Ranges.{widen, product-range, sum-range, over-range, ratio-range, half-range}
 use Rattle.exact.proofs.Accepted.{Facts}
@@ -40,7 +40,6 @@ module _ (up : Bool) where
     pub X : InRange 32 387 (l .X)
     pub Y : InRange 32 387 (l .Y)
     pub t : InRange 32 387 (l .t)
-    pub c₀ : InRange 32 177 (l .c₀)
 
   module _ (l : Letters Scaled) (i : Letters-in l) where
     -- ---- the terms
@@ -85,12 +84,12 @@ module _ (up : Bool) where
           sum = widen (omega arith) (add-in (widen {B = B + 460} (omega arith) (k .sum)) c);
         }
 
-    pub terms-in : (n : ℕ) → n ≤ 4096 → Terms-in (700 * n + 400) (terms value (round up 32) l n)
+    pub terms-in : {c₀ : Scaled} → InRange 32 177 c₀ → (n : ℕ) → n ≤ 4096 → Terms-in (700 * n + 400) (terms value (round up 32) l c₀ n)
     unfolding terms first
-    terms-in zero nl =
-        let c₀ = widen {B = 400} (omega arith) (i .c₀) in
-        record { c = c₀; p = widen (omega arith) (mul-in (i .u) (i .c₀)); v = c₀; y = c₀; sum = c₀ }
-    terms-in (suc n) nl = rw (← step n) (next-in (700 * n + 400) n nl (terms-in n (omega arith)))
+    terms-in z zero nl =
+        let c₀ = widen {B = 400} (omega arith) z in
+        record { c = c₀; p = widen (omega arith) (mul-in (i .u) z); v = c₀; y = c₀; sum = c₀ }
+    terms-in z (suc n) nl = rw (← step n) (next-in (700 * n + 400) n nl (terms-in z n (omega arith)))
       where
         step : (n : ℕ) → 700 * n + 400 + 700 ≡ 700 * suc n + 400
         step n = omega arith
@@ -103,10 +102,10 @@ module _ (up : Bool) where
         widen (omega arith)
         (add-in (add-in (half-in (widen {B = 387} (omega arith) (i .u)) (i .h)) (widen {B = 387 + 1 + 1 + 1} (omega arith) (i .X))) (widen {B = 387 + 1 + 1 + 1 + 1 + 1} (omega arith) (i .Y)))
 
-    pub tail-in : (M : Scaled) → InRange 32 400 M → (n : ℕ) → n ≤ 4096 → InRange 32 (700 * n + 400) (tail-term value (round up 32) l M n)
-    unfolding tail-term next-d
-    tail-in M m zero nl = widen (omega arith) (i .c₀)
-    tail-in M m (suc n) nl = widen (omega arith) (div-in (suc (suc n)) (zero-lt-suc (suc n)) (omega arith) (mul-in (tail-in M m n (omega arith)) m))
+  pub tail-in : {c₀ M : Scaled} → InRange 32 177 c₀ → InRange 32 400 M → (n : ℕ) → n ≤ 4096 → InRange 32 (700 * n + 400) (tail-term value (round up 32) c₀ M n)
+  unfolding tail-term next-d
+  tail-in z m zero nl = widen (omega arith) z
+  tail-in z m (suc n) nl = widen (omega arith) (div-in (suc (suc n)) (zero-lt-suc (suc n)) (omega arith) (mul-in (tail-in z m n (omega arith)) m))
 
   -- ---- r(k) and its sum
 
@@ -136,7 +135,6 @@ module _ (up : Bool) where
       let R = square-max (E .R) (f .R-max) in
       let x = mul-le-mul (f .sx-max) (f .sx-max) in
       let y = mul-le-mul (f .sy-max) (f .sy-max) in
-      let xy = mul-le-mul (f .sx-max) (f .sy-max) in
       let xp = mul-pos (f .sx-pos) (f .sx-pos) in
       let yp = mul-pos (f .sy-pos) (f .sy-pos) in
       let u = ratio-in (E .R * E .R) (2 * (E .sy * E .sy)) R (omega arith) (omega arith) in
@@ -150,5 +148,11 @@ module _ (up : Bool) where
         X = mul-in zx b;
         Y = mul-in zy u;
         t = widen (omega arith) (add-in (add-in zx zy) (widen {B = 177 + 1 + 1} (omega arith) u));
-        c₀ = ratio-in (E .R * E .R) (2 * (E .sx * E .sy)) R (omega arith) (omega (arith, mul-pos (f .sx-pos) (f .sy-pos)));
       }
+
+  pub start-in : {E : Encounter} → Facts E → InRange 32 177 (start value (round up 32) E)
+  unfolding start a₀
+  start-in {E} f =
+      let xy = mul-le-mul (f .sx-max) (f .sy-max) in
+      let p = mul-pos (f .sx-pos) (f .sy-pos) in
+      ratio-in (E .R * E .R) (2 * (E .sx * E .sy)) (square-max (E .R) (f .R-max)) (omega arith) (omega arith)

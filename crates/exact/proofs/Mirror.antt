@@ -8,8 +8,8 @@ use Rattle.exact.specs.Scaled.{value}
 use Rattle.exact.specs.Fraction.{whole, _⊕_, _⊗_, _⊘_}
 use Rattle.exact.specs.Rounding.{D, U, round}
 use Rattle.exact.specs.Encounter.{Encounter, square, u, b, zx, zy, g, a₀}
-use Rattle.exact.specs.Steps.{Letters, Powers, letters, terms, powers, bound, tail-term}
-use Rattle.exact.specs.Bracket.{one, side-letters, side-terms, side-powers, sum-to, M, d, tail-bound, upper-exponential, lower-exponential, lower-end, upper-end}
+use Rattle.exact.specs.Steps.{Letters, Powers, letters, start, terms, powers, bound, tail-term}
+use Rattle.exact.specs.Bracket.{one, side-letters, side-start, side-terms, side-powers, sum-to, M, d, tail-bound, upper-exponential, lower-exponential, lower-end, upper-end}
 
 abbrev pub mirrored : Encounter → Encounter
 mirrored E = record { R = E .R; sx = E .sx; sy = E .sy; xm = negℤ (E .xm); ym = E .ym }
@@ -28,16 +28,16 @@ unfolding side-letters letters u b zx zy g a₀
 letters-mirror up E = rw (square-neg (E .xm))
 
 sum-mirror : (up : Bool) (E : Encounter) (N : ℕ) → sum-to up (mirrored E) N ≡ sum-to up E N
-unfolding sum-to side-terms
-sum-mirror up E N = ap (λ (l : Letters Scaled). terms value (round up 32) l (pred N) .sum) (letters-mirror up E)
+unfolding sum-to side-terms side-start start a₀
+sum-mirror up E N = ap (λ (l : Letters Scaled). terms value (round up 32) l (side-start up E) (pred N) .sum) (letters-mirror up E)
 
 powers-mirror : (up : Bool) (E : Encounter) (k : ℕ) → side-powers up (mirrored E) k ≡ side-powers up E k
 unfolding side-powers
 powers-mirror up E k = ap (λ (l : Letters Scaled). powers value (round up 32) one (l .t) k) (letters-mirror up E)
 
 d-mirror : (E : Encounter) (N : ℕ) → d (mirrored E) N ≡ d E N
-unfolding d M
-d-mirror E N = ap (λ (l : Letters Scaled). tail-term value (round true 32) l (bound value (round true 32) l) N) (letters-mirror true E)
+unfolding d M side-start start a₀
+d-mirror E N = ap (λ (l : Letters Scaled). tail-term value (round true 32) (side-start true E) (bound value (round true 32) l) N) (letters-mirror true E)
 
 pub lower-mirror : (E : Encounter) (N : ℕ) → lower-end (mirrored E) N ≡ lower-end E N
 unfolding lower-end upper-exponential

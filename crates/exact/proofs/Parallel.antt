@@ -4,7 +4,7 @@ use Prim.Native.Nat.{ℕ, zero, suc, _+_, _*_, _≤_}
 use native.Mathlib.Omega.{arith}
 use Rattle.exact.specs.Fraction.{Frac, _⊕_, _⊗_, _÷_}
 use Rattle.exact.specs.Encounter.{Encounter, u, b, zx, zy, g, a₀}
-use Rattle.exact.specs.Steps.{Letters, Terms, Powers, add, mul, div, letters, first, next-c, next-p, next-v, next-y, next, terms, bound, next-d, tail-term, next-power, powers}
+use Rattle.exact.specs.Steps.{Letters, Terms, Powers, add, mul, div, letters, start, first, next-c, next-p, next-v, next-y, next, terms, bound, next-d, tail-term, next-power, powers}
 
 -- what such a relation has to keep
 pub record Within {S S′ : Type 0} (val : S → Frac) (rnd : Frac → S) (val′ : S′ → Frac) (rnd′ : Frac → S′) (R : ℕ → Frac → Frac → Type 0) : Type 0 where
@@ -36,7 +36,6 @@ module _ {S S′ : Type 0} (val : S → Frac) (rnd : Frac → S) (val′ : S′ 
     pub X : R 3 (val (l .X)) (val′ (l′ .X))
     pub Y : R 3 (val (l .Y)) (val′ (l′ .Y))
     pub t : R 3 (val (l .t)) (val′ (l′ .t))
-    pub c₀ : R 1 (val (l .c₀)) (val′ (l′ .c₀))
 
   pub letters-close : (E : Encounter) → Close-letters (letters val rnd E) (letters val′ rnd′ E)
   unfolding letters
@@ -48,8 +47,11 @@ module _ {S S′ : Type 0} (val : S → Frac) (rnd : Frac → S) (val′ : S′ 
         X = mul-R 2 (one (zx E)) (one (b E)) (omega arith);
         Y = mul-R 2 (one (zy E)) (one (u E)) (omega arith);
         t = add-R 2 (add-R 1 (one (zx E)) (one (zy E)) (omega arith) (omega arith)) (one (u E)) (omega arith) (omega arith);
-        c₀ = one (a₀ E);
       }
+
+  pub start-close : (E : Encounter) → R 1 (val (start val rnd E)) (val′ (start val′ rnd′ E))
+  unfolding start
+  start-close E = W .rounds (W .same (a₀ E))
 
   -- ---- the terms of index n
 
@@ -85,16 +87,16 @@ module _ {S S′ : Type 0} (val : S → Frac) (rnd : Frac → S) (val′ : S′ 
           sum = W .more {i = suc (9 * suc n)} (omega arith) (add-R (9 * suc n) (q .sum) c (omega arith) (omega arith));
         }
 
-    pub terms-close : (n : ℕ) → Close-terms n (terms val rnd l n) (terms val′ rnd′ l′ n)
+    pub terms-close : {c₀ : S} {c₀′ : S′} → R 1 (val c₀) (val′ c₀′) → (n : ℕ) → Close-terms n (terms val rnd l c₀ n) (terms val′ rnd′ l′ c₀′ n)
     unfolding terms first
-    terms-close zero = record {
-      c = W .more (omega arith) (k .c₀);
-      p = mul-R 2 (k .u) (k .c₀) (omega arith);
-      v = W .more (omega arith) (k .c₀);
-      y = W .more (omega arith) (k .c₀);
-      sum = W .more (omega arith) (k .c₀);
+    terms-close z zero = record {
+      c = W .more (omega arith) z;
+      p = mul-R 2 (k .u) z (omega arith);
+      v = W .more (omega arith) z;
+      y = W .more (omega arith) z;
+      sum = W .more (omega arith) z;
     }
-    terms-close (suc n) = next-close n (terms-close n)
+    terms-close z (suc n) = next-close n (terms-close z n)
 
     -- ---- M and d(n)
 
@@ -103,10 +105,10 @@ module _ {S S′ : Type 0} (val : S → Frac) (rnd : Frac → S) (val′ : S′ 
     bound-close =
         add-R 5 (add-R 4 (W .rounds (W .plus (W .more {j = 3} (omega arith) (k .u)) (W .share 2 (k .h)))) (k .X) (omega arith) (omega arith)) (k .Y) (omega arith) (omega arith)
 
-    pub tail-close : (M : S) (M′ : S′) → R 6 (val M) (val′ M′) → (n : ℕ) → R (8 * n + 1) (val (tail-term val rnd l M n)) (val′ (tail-term val′ rnd′ l′ M′ n))
-    unfolding tail-term next-d
-    tail-close M M′ h zero = W .more (omega arith) (k .c₀)
-    tail-close M M′ h (suc n) = W .more {i = suc (suc (8 * n + 7))} (omega arith) (div-R (suc (suc n)) (mul-R (8 * n + 7) (tail-close M M′ h n) h (omega arith)))
+  pub tail-close : {c₀ M : S} {c₀′ M′ : S′} → R 1 (val c₀) (val′ c₀′) → R 6 (val M) (val′ M′) → (n : ℕ) → R (8 * n + 1) (val (tail-term val rnd c₀ M n)) (val′ (tail-term val′ rnd′ c₀′ M′ n))
+  unfolding tail-term next-d
+  tail-close z h zero = W .more (omega arith) z
+  tail-close z h (suc n) = W .more {i = suc (suc (8 * n + 7))} (omega arith) (div-R (suc (suc n)) (mul-R (8 * n + 7) (tail-close z h n) h (omega arith)))
 
   -- ---- r(k) and its sum
 

@@ -14,7 +14,7 @@ same q = q
 
 -- the exact letters of an encounter
 abbrev pub exact-letters : Encounter → Letters Frac
-exact-letters E = record { u = u E; h = h E; X = X E; Y = Y E; t = t E; c₀ = a₀ E }
+exact-letters E = record { u = u E; h = h E; X = X E; Y = Y E; t = t E }
 
 pub letters-are : (E : Encounter) → letters same same E ≡ exact-letters E
 unfolding letters mul add h X Y t
@@ -22,7 +22,7 @@ letters-are E = refl
 
 module _ (u h X Y a₀ t : Frac) where
   l : Letters Frac
-  l = record { u = u; h = h; X = X; Y = Y; t = t; c₀ = a₀ }
+  l = record { u = u; h = h; X = X; Y = Y; t = t }
 
   record Same (n : ℕ) (s : Terms Frac) : Type 0 where
     c-is : s .c ≈ c u h X Y a₀ n
@@ -45,7 +45,7 @@ module _ (u h X Y a₀ t : Frac) where
         sum-is = add-cong (k .sum-is) c-ok;
       }
 
-  terms-are : (n : ℕ) → Same n (terms same same l n)
+  terms-are : (n : ℕ) → Same n (terms same same l a₀ n)
   unfolding terms first mul sum l
   terms-are zero =
       let e = c-zero u h X Y a₀ in
@@ -58,7 +58,7 @@ module _ (u h X Y a₀ t : Frac) where
       }
   terms-are (suc n) = next-is n _ (terms-are n)
 
-  pub sum-is : (n : ℕ) → terms same same (record { u = u; h = h; X = X; Y = Y; t = t; c₀ = a₀ }) n .sum ≈ sum (c u h X Y a₀) (suc n)
+  pub sum-is : (n : ℕ) → terms same same (record { u = u; h = h; X = X; Y = Y; t = t }) a₀ n .sum ≈ sum (c u h X Y a₀) (suc n)
   unfolding l
   sum-is n = terms-are n .sum-is
 

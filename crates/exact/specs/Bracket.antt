@@ -7,7 +7,7 @@ use Rattle.exact.specs.Fraction.{Frac, whole, _⊕_, _⊗_, _⊘_, at-mo
 use Rattle.exact.specs.Scaled.{scaled, value}
 use Rattle.exact.specs.Rounding.{D, U, round}
 use Rattle.exact.specs.Encounter.{Encounter}
-use Rattle.exact.specs.Steps.{Letters, Terms, Powers, letters, terms, powers, bound, tail-term}
+use Rattle.exact.specs.Steps.{Letters, Terms, Powers, letters, start, terms, powers, bound, tail-term}
 
 -- 1, as a scaled number
 abbrev pub one : Scaled
@@ -18,8 +18,11 @@ module _ (up : Bool) (E : Encounter) where
   unfoldable pub side-letters : Letters Scaled
   side-letters = letters value (round up 32) E
 
+  unfoldable pub side-start : Scaled
+  side-start = start value (round up 32) E
+
   unfoldable pub side-terms : ℕ → Terms Scaled
-  side-terms n = terms value (round up 32) side-letters n
+  side-terms n = terms value (round up 32) side-letters side-start n
 
   unfoldable pub side-powers : ℕ → Powers Scaled
   side-powers k = powers value (round up 32) one (side-letters .t) k
@@ -34,7 +37,7 @@ module _ (E : Encounter) where
   M = bound value U (side-letters true E)
 
   unfoldable pub d : ℕ → Scaled
-  d n = tail-term value U (side-letters true E) M n
+  d n = tail-term value U (side-start true E) M n
 
   -- "the tail bound at N is 2d(N)"
   unfoldable pub tail-bound : ℕ → Frac

@@ -4,14 +4,13 @@ use Prim.Native.Nat.{ℕ, zero, suc, _*_}
 use Rattle.exact.specs.Fraction.{Frac, _⊕_, _⊗_, _÷_}
 use Rattle.exact.specs.Encounter.{Encounter, u, b, zx, zy, g, a₀}
 
--- "on rounded u, b, zx, zy, g, c(0) (each D of its exact fraction)", and what is formed of them: h, X, Y, t
+-- the letters that a side keeps: u, and what is formed "on rounded u, b, zx, zy, g, c(0) (each D of its exact fraction)": h, X, Y, t
 pub record Letters (S : Type 0) : Type 0 where
   pub u : S
   pub h : S
   pub X : S
   pub Y : S
   pub t : S
-  pub c₀ : S
 
 -- c(n), p(n), v(n), y(n), and the sum of c(0) to c(n)
 pub record Terms (S : Type 0) : Type 0 where
@@ -45,13 +44,16 @@ module _ {S : Type 0} (val : S → Frac) (D : Frac → S) where
     X = mul (D (zx E)) (D (b E));
     Y = mul (D (zy E)) (D (u E));
     t = add (add (D (zx E)) (D (zy E))) (D (u E));
-    c₀ = D (a₀ E);
   }
+
+  -- the rounded c(0)
+  unfoldable pub start : Encounter → S
+  start E = D (a₀ E)
 
   module _ (l : Letters S) where
     -- "p(0) = D(u × c(0)); v(0) = y(0) = c(0)."
-    unfoldable pub first : Terms S
-    first = record { c = l .c₀; p = mul (l .u) (l .c₀); v = l .c₀; y = l .c₀; sum = l .c₀ }
+    unfoldable pub first : S → Terms S
+    first c₀ = record { c = c₀; p = mul (l .u) c₀; v = c₀; y = c₀; sum = c₀ }
 
     -- "c(n+1) = D(D(D(D(p(n) + D(h × v(n))/2) + D(X × y(n))) + D(Y × c(n))) / ((n+1)(n+2)))"
     unfoldable pub next-c : ℕ → Terms S → S
@@ -76,21 +78,21 @@ module _ {S : Type 0} (val : S → Frac) (D : Frac → S) where
         let v = next-v n c s in
         record { c = c; p = next-p n c s; v = v; y = next-y n v s; sum = add (s .sum) c }
 
-    unfoldable pub terms : ℕ → Terms S
-    terms zero = first
-    terms (suc n) = next n (terms n)
+    unfoldable pub terms : S → ℕ → Terms S
+    terms c₀ zero = first c₀
+    terms c₀ (suc n) = next n (terms c₀ n)
 
     -- "M = U(U(U(u + h/2) + X) + Y)"
     unfoldable pub bound : S
     bound = add (add (D (val (l .u) ⊕ val (l .h) ÷ 2)) (l .X)) (l .Y)
 
-    -- "d(0) = c(0), d(n) = U(U(d(n−1) × M)/(n+1))"
-    unfoldable pub next-d : S → ℕ → S → S
-    next-d M n d = div (mul d M) (suc (suc n))
+  -- "d(0) = c(0), d(n) = U(U(d(n−1) × M)/(n+1))"
+  unfoldable pub next-d : S → ℕ → S → S
+  next-d M n d = div (mul d M) (suc (suc n))
 
-    unfoldable pub tail-term : S → ℕ → S
-    tail-term M zero = l .c₀
-    tail-term M (suc n) = next-d M n (tail-term M n)
+  unfoldable pub tail-term : S → S → ℕ → S
+  tail-term c₀ M zero = c₀
+  tail-term c₀ M (suc n) = next-d M n (tail-term c₀ M n)
 
   -- "The exponential has r(0) = 1, r(k) = D(D(r(k−1) × t)/k), added likewise"
   module _ (one t : S) where
