@@ -1,3 +1,9 @@
 pub mod Shift
 pub mod LongDivision
+pub mod Fitting
+pub mod Opening
+pub mod Progressing
+pub mod Reading
+pub mod Answering
 pub mod Stars
+pub mod Invariant

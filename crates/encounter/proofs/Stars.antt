@@ -8,10 +8,10 @@ use Rattle.exact.specs.Encounter.{square, u, b, zx, zy, g, h, X, Y, t, a₀}
 use Rattle.exact.specs.Series.{factorial, dot, F₀, F, upto, a, c}
 use Rattle.exact.specs.Steps.{add, mul, div, letters, start, first, next-c, next-p, next-v, next-y, next, terms, bound, next-d, tail-term}
 use Rattle.exact.specs.Bracket.{side-letters, side-start, side-terms, M, d, tail-bound, readable}
-use Rattle.exact.specs.Accepted.{outside, far, begin-refusal}
+use Rattle.exact.specs.Accepted.{outside, far, input-tests, begin-refusal}
 use Rattle.exact.proofs.Mirror.{lower-mirror, upper-mirror}
 use Rattle.encounter.specs.Stars.{E₂, All, stars}
 
 pub stars-hold : All stars
-unfolding stars round pack finish spare inexact _over_ whole _⊕_ _⊗_ _÷_ _↑_ at-most value size span climb square u b zx zy g h X Y t a₀ factorial dot F₀ F upto a c add mul div letters start first next-c next-p next-v next-y next terms bound next-d tail-term side-letters side-start side-terms M d tail-bound readable outside far begin-refusal
+unfolding stars round pack finish spare inexact _over_ whole _⊕_ _⊗_ _÷_ _↑_ at-most value size span climb square u b zx zy g h X Y t a₀ factorial dot F₀ F upto a c add mul div letters start first next-c next-p next-v next-y next terms bound next-d tail-term side-letters side-start side-terms M d tail-bound readable outside far input-tests begin-refusal
 stars-hold = (refl, (refl, (refl, (refl, (refl, (refl, (refl, (refl, (record { eq = refl }, (record { eq = refl }, (record { eq = refl }, (record { eq = refl }, (record { eq = refl }, (refl, (refl, (refl, (refl, (refl, (refl, (refl, (refl, (refl, (record { eq = refl }, (refl, (record { eq = refl }, (record { eq = refl }, (refl, (record { eq = refl }, (refl, (refl, (refl, (refl, (refl, (refl, (lower-mirror E₂ 2110, (upper-mirror E₂ 2110, tt))))))))))))))))))))))))))))))))))))

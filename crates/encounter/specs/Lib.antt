@@ -1,1 +1,4 @@
 pub mod Stars
+pub mod Session
+pub mod Calls
+pub mod Enclosure

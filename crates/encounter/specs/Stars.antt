@@ -3,12 +3,12 @@ use mathlib.Core.Path.{_≡_}
 use mathlib.Core.Bool.{Bool, true, false}
 use mathlib.Core.List.{List, [], _∷_}
 use Prim.Native.Nat.{ℕ, _+_, _^_}
-use lib.IntN.{ℤ, pos, negsuc}
+use lib.IntN.{pos, negsuc}
 use Rattle.exact.specs.declared.Scaled.{Scaled}
 use Rattle.exact.specs.Fraction.{Frac, _≈_, _over_, whole}
 use Rattle.exact.specs.Scaled.{scaled, nought, value}
 use Rattle.exact.specs.Rounding.{D, U}
-use Rattle.exact.specs.Encounter.{Encounter, u, h, X, Y, t, a₀}
+use Rattle.exact.specs.Encounter.{Encounter, encounter-of, u, h, X, Y, t, a₀}
 use Rattle.exact.specs.Series.{c}
 use Rattle.exact.specs.Bracket.{side-letters, side-start, side-terms, M, tail-bound, lower-end, upper-end, readable}
 use Rattle.exact.specs.Accepted.{begin-refusal}
@@ -30,21 +30,18 @@ abbrev pub All : List Star → Type 0
 All [] = Unit {0}
 All (s ∷ l) = Holds s × All l
 
-abbrev pub of : ℕ → ℕ → ℕ → ℤ → ℤ → Encounter
-of R sx sy xm ym = record { R = R; sx = sx; sy = sy; xm = xm; ym = ym }
-
 -- (10, 10, 10, 0, 0), (8, 1, 1, 8, 0), (8, 1, 1, 8, 1), and the second with xm = −8
 abbrev pub E₁ : Encounter
-E₁ = of 10 10 10 (pos 0) (pos 0)
+E₁ = encounter-of 10 10 10 (pos 0) (pos 0)
 
 abbrev pub E₂ : Encounter
-E₂ = of 8 1 1 (pos 8) (pos 0)
+E₂ = encounter-of 8 1 1 (pos 8) (pos 0)
 
 abbrev pub E₃ : Encounter
-E₃ = of 8 1 1 (pos 8) (pos 1)
+E₃ = encounter-of 8 1 1 (pos 8) (pos 1)
 
 abbrev pub E₄ : Encounter
-E₄ = of 8 1 1 (negsuc 7) (pos 0)
+E₄ = encounter-of 8 1 1 (negsuc 7) (pos 0)
 
 -- the exact c(n)
 abbrev pub c-of : Encounter → ℕ → Frac

@@ -1,31 +1,19 @@
 -- What acceptance says of an encounter, and what g means then.
-use mathlib.Core.Path.{_≡_, refl, sym}
-use mathlib.Core.Bool.{Bool, true, false, not, cond, _||_}
+use mathlib.Core.Path.{_≡_, refl}
+use mathlib.Core.Bool.{Bool, true, false, cond, _||_}
 use Prim.Native.Nat.{ℕ, suc, _*_, _≤_, _<_}
 use native.Mathlib.Nat.{mul-le-mul}
 use native.Mathlib.Omega.{arith}
 use borrow.Author.Tests.{ltb-false, eqb-false}
 use lib.Dec.{ltb, eqb}
 use lib.IntN.{pos, natAbs, _-ℤ_}
-use Rattle.exact.specs.Fraction.{_≼_, _over_, whole, at-most}
+use Rattle.exact.specs.Fraction.{_≼_, _over_, whole}
 use Rattle.exact.specs.Scaled.{value}
 use Rattle.exact.specs.Encounter.{Encounter, g}
 use Rattle.exact.specs.Bracket.{side-letters}
-use Rattle.exact.specs.Accepted.{outside, far, begin-refusal, Accepted}
+use Rattle.exact.specs.Accepted.{outside, far, input-tests, begin-refusal, Bounds, Accepted}
 use Rattle.exact.proofs.Integers.{balanced, bal-diff}
 use Rattle.exact.proofs.Order.{at-most-holds}
-
-pub record Facts (E : Encounter) : Type 0 where
-  pub R-pos : 0 < E .R
-  pub R-max : E .R ≤ 10000000
-  pub sx-pos : 0 < E .sx
-  pub sx-max : E .sx ≤ 10000000
-  pub sy-pos : 0 < E .sy
-  pub sy-max : E .sy ≤ 10000000
-  pub ordered : E .sy ≤ E .sx
-  pub xm-max : natAbs (E .xm) ≤ 10000000
-  pub ym-max : natAbs (E .ym) ≤ 10000000
-  pub t-max : value (side-letters true E .t) ≼ whole 64
 
 -- a test that did not refuse
 passed : (k : ℕ) (b : Bool) (r : ℕ) → cond b (suc k) r ≡ 0 → (b ≡ false) × (r ≡ 0)
@@ -50,38 +38,49 @@ inside n h =
     let nz = eqb-false n 0 z in
     (omega arith, ltb-false 10000000 n l)
 
-unnegated : (b : Bool) → not b ≡ false → b ≡ true
-unnegated true h = refl
-unnegated false h = sym h
-
-pub facts : {E : Encounter} → Accepted E → Facts E
-unfolding begin-refusal far
-facts {E} h =
-    let (t3, r3) = passed 2 (outside (E .R)) _ (h .passes) in
+-- the tests 3 to 6 passed, and what follows them says 0
+pub bounds : (E : Encounter) (rest : ℕ) → input-tests E rest ≡ 0 → Bounds E × (rest ≡ 0)
+unfolding input-tests far
+bounds E rest h =
+    let (t3, r3) = passed 2 (outside (E .R)) _ h in
     let (t4, r4) = passed 3 (outside (E .sx) || outside (E .sy)) _ r3 in
     let (t5, r5) = passed 4 (ltb (E .sx) (E .sy)) _ r4 in
     let (t6, r6) = passed 5 (far (E .xm) || far (E .ym)) _ r5 in
-    let (t7, r7) = passed 6 (not (at-most (value (side-letters true E .t)) (whole 64))) 0 r6 in
     let R = inside (E .R) t3 in
     let (sx, sy) = neither (outside (E .sx)) (outside (E .sy)) t4 in
-    let (xm, ym) = neither (far (E .xm)) (far (E .ym)) t6 in
-    record {
-      R-pos = R .0;
-      R-max = R .1;
-      sx-pos = inside (E .sx) sx .0;
-      sx-max = inside (E .sx) sx .1;
-      sy-pos = inside (E .sy) sy .0;
-      sy-max = inside (E .sy) sy .1;
-      ordered = ltb-false (E .sx) (E .sy) t5;
-      xm-max = ltb-false 10000000 (natAbs (E .xm)) xm;
-      ym-max = ltb-false 10000000 (natAbs (E .ym)) ym;
-      t-max = at-most-holds _ _ (unnegated _ t7);
-    }
+    let (xm, ym) = neither (far (E .xm)) (far (E .ym)) t6 in (
+      record {
+        R-pos = R .0;
+        R-max = R .1;
+        sx-pos = inside (E .sx) sx .0;
+        sx-max = inside (E .sx) sx .1;
+        sy-pos = inside (E .sy) sy .0;
+        sy-max = inside (E .sy) sy .1;
+        ordered = ltb-false (E .sx) (E .sy) t5;
+        xm-max = ltb-false 10000000 (natAbs (E .xm)) xm;
+        ym-max = ltb-false 10000000 (natAbs (E .ym)) ym;
+      },
+      r6,
+    )
+
+pub record Facts (E : Encounter) : Type 0 where
+  pub bounds : Bounds E
+  pub t-max : value (side-letters true E .t) ≼ whole 64
+
+pub facts : {E : Encounter} → Accepted E → Facts E
+unfolding begin-refusal
+facts {E} h =
+    let (b, r) = bounds E _ (h .passes) in
+    record { bounds = b; t-max = at-most-holds _ _ (zero-taken _ r) }
+  where
+    zero-taken : (b : Bool) → _≡_ {A = ℕ} (cond b 0 7) 0 → b ≡ true
+    zero-taken true z = refl
+    zero-taken false z = let f : ⊥ = omega arith in absurd f
 
 -- "signed where something is subtracted": for every accepted encounter g's numerator is the integer sx² − sy²
 pub g-is : {E : Encounter} → Accepted E → pos (g E .num) ≡ pos (E .sx * E .sx) -ℤ pos (E .sy * E .sy)
 unfolding g _over_
 g-is {E} h =
-    let f = facts h in
+    let f = facts h .bounds in
     let l = mul-le-mul (f .ordered) (f .ordered) in
     balanced _ _ (omega (arith, bal-diff (pos (E .sx * E .sx)) (pos (E .sy * E .sy))))

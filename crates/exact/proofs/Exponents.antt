@@ -11,45 +11,30 @@ use Rattle.exact.specs.Fraction.{_⊕_, _÷_, _over_}
 use Rattle.exact.specs.Scaled.{value, InRange}
 use Rattle.exact.specs.Rounding.{round}
 use Rattle.exact.specs.Encounter.{Encounter, square, u, b, zx, zy, g, a₀}
-use Rattle.exact.specs.Steps.{Letters, Terms, Powers, add, mul, div, letters, start, first, next-c, next-p, next-v, next-y, next, terms, bound, next-d, tail-term, next-power, powers}
+use Rattle.exact.specs.Steps.{Letters, Terms, add, mul, div, letters, start, first, next-c, next-p, next-v, next-y, next, terms, bound, next-d, tail-term, next-power, powers}
+use Rattle.exact.specs.Ranges.{Letters-in, Terms-in, Powers-in}
 use Rattle.exact.proofs.Order.{sum-half}
 use Rattle.exact.proofs.Ranges.{widen, product-range, sum-range, over-range, ratio-range, half-range}
-use Rattle.exact.proofs.Accepted.{Facts}
+use Rattle.exact.specs.Accepted.{Bounds}
 
 module _ (up : Bool) where
-  add-in : {A : ℕ} {x y : Scaled} → InRange 32 A x → InRange 32 A y → InRange 32 (A + 1 + 1) (add value (round up 32) x y)
+  pub add-in : {A : ℕ} {x y : Scaled} → InRange 32 A x → InRange 32 A y → InRange 32 (A + 1 + 1) (add value (round up 32) x y)
   unfolding add
   add-in h k = sum-range up 32 (lit< tt) h k
 
-  mul-in : {A B : ℕ} {x y : Scaled} → InRange 32 A x → InRange 32 B y → InRange 32 (A + B + 32 + 1) (mul value (round up 32) x y)
+  pub mul-in : {A B : ℕ} {x y : Scaled} → InRange 32 A x → InRange 32 B y → InRange 32 (A + B + 32 + 1) (mul value (round up 32) x y)
   unfolding mul
   mul-in h k = product-range up 32 (lit< tt) h k
 
-  div-in : {A : ℕ} {x : Scaled} (k : ℕ) → 0 < k → k ≤ 2 ^ 32 → InRange 32 A x → InRange 32 (A + 32 + 1) (div value (round up 32) x k)
+  pub div-in : {A : ℕ} {x : Scaled} (k : ℕ) → 0 < k → k ≤ 2 ^ 32 → InRange 32 A x → InRange 32 (A + 32 + 1) (div value (round up 32) x k)
   unfolding div
   div-in k p l h = over-range up 32 (lit< tt) k p l h
 
-  half-in : {A : ℕ} {x y : Scaled} → InRange 32 A x → InRange 32 A y → InRange 32 (A + 1 + 1 + 1) (round up 32 (value x ⊕ value y ÷ 2))
+  pub half-in : {A : ℕ} {x y : Scaled} → InRange 32 A x → InRange 32 A y → InRange 32 (A + 1 + 1 + 1) (round up 32 (value x ⊕ value y ÷ 2))
   half-in {A} {x} {y} h k = rw (sum-half up 32 x y (lit< tt)) (sum-range up 32 (lit< tt) (widen (omega arith) h) (half-range k))
-
-  -- ---- the letters
-
-  pub record Letters-in (l : Letters Scaled) : Type 0 where
-    pub u : InRange 32 177 (l .u)
-    pub h : InRange 32 387 (l .h)
-    pub X : InRange 32 387 (l .X)
-    pub Y : InRange 32 387 (l .Y)
-    pub t : InRange 32 387 (l .t)
 
   module _ (l : Letters Scaled) (i : Letters-in l) where
     -- ---- the terms
-
-    pub record Terms-in (B : ℕ) (s : Terms Scaled) : Type 0 where
-      pub c : InRange 32 B (s .c)
-      pub p : InRange 32 B (s .p)
-      pub v : InRange 32 B (s .v)
-      pub y : InRange 32 B (s .y)
-      pub sum : InRange 32 B (s .sum)
 
     -- the divisors fit
     small : (n : ℕ) → n < 4096 → suc n * suc (suc n) ≤ 2 ^ 32
@@ -58,7 +43,7 @@ module _ (up : Bool) where
         let b : suc (suc n) ≤ 4097 = omega arith in
         omega (arith, mul-le-mul a b)
 
-    c-in : (B n : ℕ) {s : Terms Scaled} → n < 4096 → Terms-in B s → InRange 32 (B + 460) (next-c value (round up 32) l n s)
+    pub c-in : (B n : ℕ) {s : Terms Scaled} → n < 4096 → Terms-in B s → InRange 32 (B + 460) (next-c value (round up 32) l n s)
     unfolding next-c
     c-in B n {s} nl k =
         widen (omega arith)
@@ -109,10 +94,6 @@ module _ (up : Bool) where
 
   -- ---- r(k) and its sum
 
-  pub record Powers-in (B : ℕ) (w : Powers Scaled) : Type 0 where
-    pub r : InRange 32 B (w .r)
-    pub sum : InRange 32 B (w .sum)
-
   pub powers-in : (one t : Scaled) → InRange 32 400 one → InRange 32 387 t → (k : ℕ) → k ≤ 4096 → Powers-in (700 * k + 400) (powers value (round up 32) one t k)
   unfolding powers next-power
   powers-in one t o i zero kl = record { r = o; sum = o }
@@ -129,7 +110,7 @@ module _ (up : Bool) where
   ratio-in : (n d : ℕ) → n < 2 ^ 48 → d < 2 ^ 48 → 0 < d → InRange 32 177 (round up 32 (n over d))
   ratio-in n d nl dl dp = ratio-range up 32 (lit< tt) 48 n d nl dl dp
 
-  pub letters-in : {E : Encounter} → Facts E → Letters-in (letters value (round up 32) E)
+  pub letters-in : {E : Encounter} → Bounds E → Letters-in (letters value (round up 32) E)
   unfolding letters u b zx zy g a₀ square
   letters-in {E} f =
       let R = square-max (E .R) (f .R-max) in
@@ -150,7 +131,7 @@ module _ (up : Bool) where
         t = widen (omega arith) (add-in (add-in zx zy) (widen {B = 177 + 1 + 1} (omega arith) u));
       }
 
-  pub start-in : {E : Encounter} → Facts E → InRange 32 177 (start value (round up 32) E)
+  pub start-in : {E : Encounter} → Bounds E → InRange 32 177 (start value (round up 32) E)
   unfolding start a₀
   start-in {E} f =
       let xy = mul-le-mul (f .sx-max) (f .sy-max) in

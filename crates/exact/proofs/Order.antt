@@ -12,12 +12,12 @@ use lib.IntN.{ℤ, pos, _+ℤ_, _-ℤ_}
 use lib.Pow.{pow-pos, pow-add, pow-mono}
 use Rattle.exact.specs.declared.Scaled.{Scaled}
 use Rattle.exact.specs.Integer.{posPart, negPart}
-use Rattle.exact.specs.Fraction.{Frac, _≼_, _≈_, _⊕_, _⊗_, _÷_, whole, at-most}
-use Rattle.exact.specs.Scaled.{scaled, nought, value, Normal, moved, half, double}
+use Rattle.exact.specs.Fraction.{Frac, _≼_, _≺_, _≈_, _⊕_, _⊗_, _÷_, whole, at-most}
+use Rattle.exact.specs.Scaled.{scaled, nought, value, Normal, IsScaled, moved, half, double}
 use Rattle.exact.proofs.Integers.{bal-add, bal-diff}
 use Rattle.exact.specs.Rounding.{round}
-use Rattle.exact.proofs.Fractions.{lt-or-le, ≈-refl, ≈-sym, add-cong}
-use Rattle.exact.proofs.Rounding.{round-cong}
+use Rattle.exact.proofs.Fractions.{lt-or-le, ≈-refl, ≈-sym, add-cong, ≼-trans, ≼-≺, ≺-≼, ≼-of, ≽-of, ≺-or-≼}
+use Rattle.exact.proofs.Rounding.{round-is, round-cong}
 
 -- ---- the test and the order
 
@@ -28,6 +28,10 @@ at-most-yes p q h = le-leb _ _ (h .le)
 pub at-most-holds : (p q : Frac) → at-most p q ≡ true → p ≼ q
 unfolding at-most
 at-most-holds p q h = record { le = leb→le _ _ (rw h tt) }
+
+pub at-most-no : (p q : Frac) → q ≺ p → at-most p q ≡ false
+unfolding at-most
+at-most-no p q h = lt-leb _ _ (h .lt)
 
 -- ---- by exponent and mantissa
 
@@ -125,3 +129,19 @@ sum-half up b x y bp = round-cong up b bp (add-cong (≈-refl (value x)) (≈-sy
 
 pub sum-double : (up : Bool) (b : ℕ) (x y : Scaled) → 0 < b → round up b (value x ⊕ whole 2 ⊗ value y) ≡ round up b (value x ⊕ value (double y))
 sum-double up b x y bp = round-cong up b bp (add-cong (≈-refl (value x)) (≈-sym (double-exact y)))
+
+-- the test depends on the values alone
+pub at-most-cong : (p p′ q q′ : Frac) → p ≈ p′ → q ≈ q′ → at-most p q ≡ at-most p′ q′
+at-most-cong p p′ q q′ e f =
+    ⊎-elim
+    (λ l. at-most-no p q l ∙ sym (at-most-no p′ q′ (≺-≼ (≼-≺ (≽-of f) l) (≼-of e))))
+    (λ l. at-most-yes p q l ∙ sym (at-most-yes p′ q′ (≼-trans (≽-of e) (≼-trans l (≼-of f)))))
+    (≺-or-≼ q p)
+
+-- x is at least q just where it is at least U(q)
+pub at-least-up : (b : ℕ) (q : Frac) {x : Scaled} → 0 < b → IsScaled b x → at-most (value (round true b q)) (value x) ≡ at-most q (value x)
+at-least-up b q {x} bp n =
+    ⊎-elim
+    (λ l. at-most-no (value (round true b q)) (value x) (≺-≼ l (round-is true b q bp .side)) ∙ sym (at-most-no q (value x) l))
+    (λ l. at-most-yes _ _ (round-is true b q bp .best x n l) ∙ sym (at-most-yes _ _ l))
+    (≺-or-≼ (value x) q)

@@ -131,7 +131,7 @@ module _ (up : Bool) (b : ℕ) (bp : 0 < b) where
           (let d = x .e -ℤ y .e in omega (arith, h .above, k .below, pos-add (d -ℤ pos b) (pos b), pos-diff d (pos b), neg-diff d (pos b), pos-diff (x .e) (y .e), neg-diff (x .e) (y .e)))
           (let d = x .e -ℤ y .e in omega (arith, h .below, k .above, neg-diff d (pos b), neg-diff (x .e) (y .e)))
 
-  fraction-range : (l : ℕ) (q : Frac) → q .num < 2 ^ l → q .den < 2 ^ l → InRange b (l + l + l + b + 1) (round up b q)
+  pub fraction-range : (l : ℕ) (q : Frac) → q .num < 2 ^ l → q .den < 2 ^ l → InRange b (l + l + l + b + 1) (round up b q)
   unfolding round
   fraction-range l q nl dl =
       let j = size (q .num) in

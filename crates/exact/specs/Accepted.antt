@@ -1,7 +1,7 @@
 -- Document 01, the table 'From the input': the tests 3 to 7 of a begin, in the table's order.
-use mathlib.Core.Bool.{Bool, true, not, cond, _||_}
+use mathlib.Core.Bool.{Bool, true, cond, _||_}
 use mathlib.Core.Path.{_≡_}
-use Prim.Native.Nat.{ℕ}
+use Prim.Native.Nat.{ℕ, _≤_, _<_}
 use lib.Dec.{ltb, eqb}
 use lib.IntN.{ℤ, natAbs}
 use Rattle.exact.specs.Fraction.{whole, at-most}
@@ -17,9 +17,9 @@ outside n = eqb n 0 || ltb 10000000 n
 unfoldable pub far : ℤ → Bool
 far z = ltb 10000000 (natAbs z)
 
--- the number of the first test that refuses the encounter, or 0
-unfoldable pub begin-refusal : Encounter → ℕ
-begin-refusal E =
+-- the tests 3 to 6, and what follows where none of them refuses
+unfoldable pub input-tests : Encounter → ℕ → ℕ
+input-tests E rest =
     -- 3: R is 0 or above 10,000,000
     cond (outside (E .R)) 3
     -- 4: sx or sy is 0 or above 10,000,000
@@ -28,9 +28,27 @@ begin-refusal E =
     (cond (ltb (E .sx) (E .sy)) 5
     -- 6: a miss outside −10,000,000 to 10,000,000
     (cond (far (E .xm) || far (E .ym)) 6
+    rest)))
+
+-- the number of the first test that refuses a begin, or 0
+unfoldable pub begin-refusal : Encounter → ℕ
+begin-refusal E =
+    input-tests E
     -- 7: upper t above 64
-    (cond (not (at-most (value (side-letters true E .t)) (whole 64))) 7 0))))
+    (cond (at-most (value (side-letters true E .t)) (whole 64)) 0 7)
 
 -- no test of a begin refuses the encounter
 pub record Accepted (E : Encounter) : Type 0 where
   pub passes : begin-refusal E ≡ 0
+
+-- what the tests 3 to 6 leave: a premise of the private arithmetic
+pub record Bounds (E : Encounter) : Type 0 where
+  pub R-pos : 0 < E .R
+  pub R-max : E .R ≤ 10000000
+  pub sx-pos : 0 < E .sx
+  pub sx-max : E .sx ≤ 10000000
+  pub sy-pos : 0 < E .sy
+  pub sy-max : E .sy ≤ 10000000
+  pub ordered : E .sy ≤ E .sx
+  pub xm-max : natAbs (E .xm) ≤ 10000000
+  pub ym-max : natAbs (E .ym) ≤ 10000000

@@ -11,6 +11,9 @@ pub record Encounter : Type 0 where
   pub xm : ℤ
   pub ym : ℤ
 
+abbrev pub encounter-of : ℕ → ℕ → ℕ → ℤ → ℤ → Encounter
+encounter-of R sx sy xm ym = record { R = R; sx = sx; sy = sy; xm = xm; ym = ym }
+
 -- xm², ym²
 unfoldable pub square : ℤ → ℕ
 square z = natAbs z * natAbs z

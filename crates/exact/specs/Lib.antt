@@ -7,3 +7,4 @@ pub mod Series
 pub mod Steps
 pub mod Bracket
 pub mod Accepted
+pub mod Ranges

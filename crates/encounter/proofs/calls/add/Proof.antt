@@ -1,0 +1,60 @@
+use native.Mathlib.Omega.{arith}
+use Rattle.encounter.proofs.Invariant.{begun, order-high}
+use Rattle.encounter.proofs.Progressing.{added-is}
+use Rattle.encounter.proofs.Answering.{add-21, add-22, add-taken, add-reached}
+use borrow.Author.Needs.{needs}
+use Rattle.encounter.proofs.calls.add.Statement.{statement}
+use Rattle.encounter.proofs.calls.add.Tie as tie
+
+refuse-requires : tie.Need-refuse-requires
+refuse-requires c κs = search needs
+
+returns : tie.Need-returns
+returns c = let z = c .before .before .before in (add-21 (z .args .s) (z .args .count) (c .before .if1 .taken) (c .refuse .ensures), z .pre)
+
+add-n : tie.Need-add-n
+add-n c = let z = c .before .before .before in record { fits = omega (arith, order-high (z .args .s) (z .pre), z .fits .count .fits) }
+
+refuse-requires-2 : tie.Need-refuse-requires-2
+refuse-requires-2 c κs = search needs
+
+returns-2 : tie.Need-returns-2
+returns-2 c =
+    let z = c .before .before .before .before .before in
+    (add-22 (z .args .s) (z .args .count) (c .before .before .before .if1 .left) (c .before .if2 .taken) (c .refuse2 .ensures), z .pre)
+
+advance-requires : tie.Need-advance-requires
+advance-requires c κs = let z = c .before .before .before .before in (begun (z .args .s) (z .pre) (c .before .before .if1 .left), c .if2 .left)
+
+later-side-requires : tie.Need-later-side-requires
+later-side-requires c κs = search needs
+
+later-side-requires-2 : tie.Need-later-side-requires-2
+later-side-requires-2 c κs = search needs
+
+count-to-requires : tie.Need-count-to-requires
+count-to-requires c κs = search needs
+
+returns-3 : tie.Need-returns-3
+returns-3 c =
+    let z = c .before .before .before .before .before .before .before .before .before in
+    let some = c .before .before .before .before .before .before .before .if1 .left in
+    let b = begun (z .args .s) (z .pre) some in
+    let n = added-is (z .args .s) b _ (c .before .before .before .before .advance .result) _ _ (omega (arith, b .low)) (c .before .before .before .before .advance .ensures) (c .before .before .before .later-side .ensures) (c .before .before .later-side2 .ensures) in
+    let e = add-taken (z .args .s) (z .args .count) some (c .before .before .before .before .before .if2 .left) (c .count-to .ensures) n in
+    (e, add-reached (z .args .count) (z .pre) e)
+
+pub add-spec : {M : Type 1} → statement M
+add-spec =
+    tie.close
+    (tie.spec
+    refuse-requires
+    returns
+    add-n
+    refuse-requires-2
+    returns-2
+    advance-requires
+    later-side-requires
+    later-side-requires-2
+    count-to-requires
+    returns-3)

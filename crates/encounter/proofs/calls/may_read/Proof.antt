@@ -1,0 +1,33 @@
+use native.Mathlib.Omega.{arith}
+use mathlib.Core.Bool.{false}
+use lib.Dec.{lit≤}
+use Rattle.exact.proofs.Ranges.{widen}
+use Rattle.encounter.proofs.Fitting.{double-of, whole-of}
+use Rattle.encounter.proofs.Progressing.{M-fine}
+use Rattle.encounter.proofs.Reading.{may-read-is}
+use borrow.Author.Needs.{needs}
+use Rattle.encounter.proofs.calls.may_read.Statement.{statement}
+use Rattle.encounter.proofs.calls.may_read.Tie as tie
+
+doubled-requires : tie.Need-doubled-requires
+doubled-requires c κs = let z = c .before in widen (lit≤ tt) (M-fine (z .args .s) (z .pre))
+
+add-whole : tie.Need-add-whole
+add-whole c = search needs
+
+whole-requires : tie.Need-whole-requires
+whole-requires c κs = search needs
+
+compare-requires : tie.Need-compare-requires
+compare-requires c κs =
+    let z = c .before .before .before .before in
+    (widen (lit≤ tt) (double-of (c .before .before .doubled .ensures) (M-fine (z .args .s) (z .pre))), widen (lit≤ tt) (whole-of false _ (c .whole .ensures) (omega (arith, z .pre .high))))
+
+returns : tie.Need-returns
+returns c =
+    let z = c .before .before .before .before .before in
+    may-read-is (z .args .s) (z .pre) (c .before .before .before .doubled .ensures) (c .before .whole .ensures) (c .compare .ensures)
+
+pub may-read-spec : {M : Type 1} → statement M
+may-read-spec =
+    tie.close (tie.spec doubled-requires add-whole whole-requires compare-requires returns)

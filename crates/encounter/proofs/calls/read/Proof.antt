@@ -1,0 +1,57 @@
+use mathlib.Core.Path.{sym, _∙_}
+use Rattle.encounter.proofs.Invariant.{begun, demand-3}
+use Rattle.encounter.proofs.Reading.{lower-end-fine}
+use Rattle.encounter.proofs.Answering.{read-21, read-23, read-taken, bracket-is}
+use borrow.Author.Needs.{needs}
+use Rattle.encounter.proofs.calls.read.Statement.{statement}
+use Rattle.encounter.proofs.calls.read.Tie as tie
+
+refuse-requires : tie.Need-refuse-requires
+refuse-requires c κs = search needs
+
+returns : tie.Need-returns
+returns c = let z = c .before .before .before in (read-21 (z .args .s) (c .before .if1 .taken) (c .refuse .ensures), demand-3)
+
+may-read-requires : tie.Need-may-read-requires
+may-read-requires c κs = let z = c .before .before in begun (z .args .s) (z .pre) (c .if1 .left)
+
+lower-end-requires : tie.Need-lower-end-requires
+lower-end-requires c κs = let z = c .before .before .before .before in begun (z .args .s) (z .pre) (c .before .before .if1 .left)
+
+upper-end-requires : tie.Need-upper-end-requires
+upper-end-requires c κs = let z = c .before .before .before .before .before in begun (z .args .s) (z .pre) (c .before .before .before .if1 .left)
+
+classify-requires : tie.Need-classify-requires
+classify-requires c κs =
+    let z = c .before .before .before .before .before .before in
+    rw (c .before .lower-end .ensures) (lower-end-fine (z .args .s) (begun (z .args .s) (z .pre) (c .before .before .before .before .if1 .left)))
+
+refuse-requires-2 : tie.Need-refuse-requires-2
+refuse-requires-2 c κs = search needs
+
+returns-2 : tie.Need-returns-2
+returns-2 c =
+    let z = c .before .before .before .before .before .before .before in
+    let some = c .before .before .before .before .before .if1 .left in (
+      read-taken (z .args .s) some (sym (c .before .before .before .before .may-read .ensures) ∙ c .before .before .before .if2 .taken) (bracket-is (z .args .s) some (c .before .before .lower-end .ensures) (c .before .upper-end .ensures) (c .classify .ensures)),
+      demand-3,
+    )
+
+returns-3 : tie.Need-returns-3
+returns-3 c =
+    let z = c .before .before .before .before .before in
+    (read-23 (z .args .s) (c .before .before .before .if1 .left) (sym (c .before .before .may-read .ensures) ∙ c .before .if2 .left) (c .refuse2 .ensures), demand-3)
+
+pub read-spec : {M : Type 1} → statement M
+read-spec =
+    tie.close
+    (tie.spec
+    refuse-requires
+    returns
+    may-read-requires
+    lower-end-requires
+    upper-end-requires
+    classify-requires
+    refuse-requires-2
+    returns-2
+    returns-3)

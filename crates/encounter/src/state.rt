@@ -1,0 +1,62 @@
+// The session: all that is kept of one encounter between calls, and what a call answers.
+use exact::Scaled;
+
+// A side's letters.
+pub struct Letters {
+    pub u: Scaled,
+    pub h: Scaled,
+    pub X: Scaled,
+    pub Y: Scaled,
+    pub t: Scaled,
+}
+
+// A side's c, p, v and y at N - 1, and its sum of c(0) to c(N - 1).
+pub struct Terms {
+    pub c: Scaled,
+    pub p: Scaled,
+    pub v: Scaled,
+    pub y: Scaled,
+    pub sum: Scaled,
+}
+
+// What a side keeps: its letters, its exponential sum and its terms.
+pub struct Side {
+    pub letters: Letters,
+    pub exponential: Scaled,
+    pub terms: Terms,
+}
+
+// The five inputs, the order N (0 where no encounter was begun), both sides, the upper r(256), M, and the upper d(N).
+pub struct Session {
+    pub R: u32,
+    pub sx: u32,
+    pub sy: u32,
+    pub xm: i32,
+    pub ym: i32,
+    pub N: u32,
+    pub lower: Side,
+    pub upper: Side,
+    pub r256: Scaled,
+    pub M: Scaled,
+    pub d: Scaled,
+}
+
+pub enum Class {
+    Clear,
+    Alert,
+}
+
+// The refusal's number, or 0; then the order, both ends and the class.
+pub struct Answer {
+    pub refusal: u32,
+    pub N: u32,
+    pub lower: Scaled,
+    pub upper: Scaled,
+    pub class: Class,
+}
+
+// What a call answers, and the session after it.
+pub struct Called {
+    pub answer: Answer,
+    pub session: Session,
+}
