@@ -3,20 +3,14 @@
 
     python3 tests/operations.py [--root FOLDER] [--seed N]
 
-The functions are in a private module. So the crates' code is copied to a temporary repository, the
-module is made public there, and a program that calls it is run by `rt try`: on the interpreter, compiled
-at -O0 and at -O3, and compiled with the compiler's assumptions checked. The program reads a record for
-each case and writes a line, and `rt try` compares the lines with those of scaled.py.
+The functions are in a private module, which scratch.py makes public in a copy of the crates. It runs a
+program there, interpreted and compiled, that answers each case.
 """
 
-import argparse
 import itertools
 import pathlib
 import random
-import re
-import shutil
 import struct
-import subprocess
 import sys
 import tempfile
 from fractions import Fraction
@@ -24,6 +18,7 @@ from typing import NamedTuple
 
 sys.dont_write_bytecode = True
 import scaled
+import scratch
 from scaled import LEAST, LIMIT, ZERO, Scaled
 
 SEED = 1
@@ -34,32 +29,19 @@ SHOWN = 5
 
 # Reads records of 18 bytes: the kind, the direction (1 for U), then two operands of 8 bytes,
 # little-endian: m and e of a scaled number, or a whole number. Writes m and e of the answer as 16
-# hexadecimal digits and a line end; a negative e is two's complement. The answer of compare is m = 1
+# hexadecimal digits and a line end; a negative e is two's complement. The answer of at_most is m = 1
 # or m = 0, with e = 0.
 DRIVER = """\
+mod words;
+use crate::words::digits;
+use crate::words::signed;
+use crate::words::unsigned;
+use crate::words::word;
 use encounter::arithmetic;
 use exact::Scaled;
 
-fn word(b: &[u8; 18], at: usize) -> u32 {
-    (b[at] as u32) + (b[at + 1] as u32) * 256 + (b[at + 2] as u32) * 65536 + (b[at + 3] as u32) * 16777216
-}
-
 fn long(b: &[u8; 18], at: usize) -> u64 {
     (word(b, at) as u64) + (word(b, at + 4) as u64) * 4294967296
-}
-
-fn signed(x: u32) -> i32 {
-    if x < 2147483648 {
-        return x as i32;
-    }
-    -1 - ((4294967295 - x) as i32)
-}
-
-fn unsigned(e: i32) -> u32 {
-    if e < 0 {
-        return 4294967295 - ((-1 - e) as u32);
-    }
-    e as u32
 }
 
 fn scaled(b: &[u8; 18], at: usize) -> Scaled {
@@ -83,23 +65,8 @@ fn answer(b: &[u8; 18]) -> Scaled {
         4 => arithmetic::ratio(up, long(b, 2), long(b, 10)),
         5 => arithmetic::halved(scaled(b, 2)),
         6 => arithmetic::doubled(scaled(b, 2)),
-        7 => truth(arithmetic::compare(scaled(b, 2), scaled(b, 10))),
+        7 => truth(arithmetic::at_most(scaled(b, 2), scaled(b, 10))),
         _ => Scaled::whole(word(b, 2)),
-    }
-}
-
-fn digits(line: &mut [u8; 17], at: usize, x: u32) {
-    let mut rest = x;
-    let mut i: usize = 8;
-    while 0 < i {
-        i -= 1;
-        let d = (rest % 16) as u8;
-        if d < 10 {
-            line[at + i] = 48 + d;
-        } else {
-            line[at + i] = 87 + d;
-        }
-        rest = rest / 16;
     }
 }
 
@@ -134,7 +101,7 @@ KINDS = {
     "ratio": Kind(True, scaled.ratio, lambda n, d: (Fraction(n, d), 0)),
     "halved": Kind(False, lambda a, _: scaled.halved(a), lambda a, _: scaled.exact_over(a, 2)),
     "doubled": Kind(False, lambda a, _: scaled.doubled(a), lambda a, _: scaled.exact_double(a)),
-    "compare": Kind(False, lambda a, b: Scaled(int(scaled.at_most(a, b)), 0), None),
+    "at_most": Kind(False, lambda a, b: Scaled(int(scaled.at_most(a, b)), 0), None),
     "whole": Kind(False, lambda n, _: scaled.whole(n), lambda n, _: (Fraction(n), 0)),
 }
 NUMBERS = {kind: n for n, kind in enumerate(KINDS)}
@@ -237,13 +204,13 @@ def of_pairs(draw):
         yield from both("product", a, b)
         yield from both("sum", a, b)
         yield from both("quotient", a, b)
-        yield Case("compare", False, a, b)
+        yield Case("at_most", False, a, b)
 
 
 def of_far_exponents(draw):
     for a, b in itertools.permutations([Scaled(LIMIT - 1, 10**8), Scaled(LEAST, -(10**8))]):
         yield from both("sum", a, b)
-        yield Case("compare", False, a, b)
+        yield Case("at_most", False, a, b)
 
 
 def of_zeros(draw):
@@ -251,7 +218,7 @@ def of_zeros(draw):
         for x, y in (a, ZERO), (ZERO, a):
             yield from both("product", x, y)
             yield from both("sum", x, y)
-            yield Case("compare", False, x, y)
+            yield Case("at_most", False, x, y)
         if a != ZERO:
             yield from both("quotient", ZERO, a)
         yield from both("over", ZERO, draw.whole(LIMIT - 1))
@@ -318,7 +285,7 @@ def of_one_number(draw):
     for a in [ZERO] + edges + [draw.number() for _ in range(200)]:
         yield Case("halved", False, a)
         yield Case("doubled", False, a)
-        yield Case("compare", False, a, a)
+        yield Case("at_most", False, a, a)
     for n in [0] + near_powers(LIMIT) + [draw.whole(LIMIT - 1) for _ in range(300)]:
         yield Case("whole", False, n)
 
@@ -353,69 +320,38 @@ def record(case):
 
 
 def line(r):
-    return "%08x%08x\n" % (r.m, r.e % LIMIT)
+    return scratch.digits(r.m) + scratch.digits(r.e) + "\n"
 
 
 def read_line(text):
-    m, e = int(text[:8], 16), int(text[8:16], 16)
-    return Scaled(m, e - LIMIT if e >= LEAST else e)
-
-
-def scratch(root, folder):
-    """A repository of the crates' code, with the module public and the driver added."""
-    for source in root.glob("crates/*/src"):
-        shutil.copytree(source, folder / source.relative_to(root))
-    library = folder / "crates/encounter/src/lib.rt"
-    text, found = re.subn("^mod arithmetic;$", "pub mod arithmetic;", library.read_text(), flags=re.M)
-    if found != 1:
-        sys.exit("operations: crates/encounter/src/lib.rt has no line 'mod arithmetic;'")
-    library.write_text(text)
-    driver = folder / "crates/driver"
-    (driver / "src").mkdir(parents=True)
-    (driver / "src/main.rt").write_text(DRIVER)
-    listed = (root / "crates.txt").read_text()
-    (folder / "crates.txt").write_text(listed + "\ndriver: encounter exact io libc\n")
-
-
-# What `rt try` says of a way of running whose output differs: the way, the first byte that differs, the output
-# from there on, and a line on how the run ended.
-DIFFERS = re.compile(
-    r"^FAIL: (.*) (?:ended|failed), .*\n"
-    r'on standard output, at byte (\d+), expected "[^"]*".*, found "([^"]*)".*\n'
-    r"what the run said:\n(.*)",
-    re.M,
-)
+    return Scaled(int(text[:8], 16), scratch.signed(int(text[8:16], 16)))
 
 
 def shown(x):
     return str(tuple(x)) if isinstance(x, Scaled) else str(x)
 
 
-def written(answer, at, text, said):
-    """What was written for a case, where it differs from byte `at` of its line on."""
-    if text == "":
-        return "nothing, " + said
-    return shown(read_line(line(answer)[:at] + text))
+def written(answer, way):
+    """What was written for a case."""
+    if way.found == "":
+        return "nothing, " + way.said
+    return shown(read_line(line(answer)[: way.at % LINE] + way.found))
 
 
 def run(folder, cases, answers):
     """Runs the cases. Gives the index of the first one that differs, with a text on it, or None."""
-    driver = folder / "crates/driver"
-    (driver / "stdin").write_bytes(b"".join(map(record, cases)))
-    (driver / "stdout").write_text("".join(map(line, answers)))
-    ended = subprocess.run(["rt", "try", "driver"], cwd=folder, capture_output=True, text=True)
-    if ended.returncode == 0:
+    ways = scratch.run(folder, b"".join(map(record, cases)), "".join(map(line, answers)))
+    if not ways:
         return None
-    ways = [(int(at), way, text, said) for way, at, text, said in DIFFERS.findall(ended.stdout)]
-    first = min([at // LINE for at, *_ in ways], default=len(cases))
+    first = min(way.at // LINE for way in ways)
     if first >= len(cases):
-        sys.exit("operations: rt try failed\n" + ended.stdout + ended.stderr)
+        sys.exit("operations: more was written than one line a case")
     case, answer = cases[first], answers[first]
     direction = [" D", " U"][case.up] if KINDS[case.kind].directed else ""
     lines = ["%s%s %s %s: expected %s" % (case.kind, direction, shown(case.x), shown(case.y), shown(answer))]
-    for at, way, text, said in ways:
-        if at // LINE == first:
-            lines.append("  %s: %s" % (way, written(answer, at % LINE, text, said)))
+    for way in ways:
+        if way.at // LINE == first:
+            lines.append("  %s: %s" % (way.name, written(answer, way)))
     return first, "\n".join(lines)
 
 
@@ -434,17 +370,13 @@ def differences(folder, cases, answers):
 
 
 def main():
-    parser = argparse.ArgumentParser(description="Compares the arithmetic of crate encounter with scaled.py.")
-    here = pathlib.Path(__file__).resolve().parent.parent
-    parser.add_argument("--root", type=pathlib.Path, default=here, help="the repository to test")
-    parser.add_argument("--seed", type=int, default=SEED, help="of the random operands")
-    words = parser.parse_args()
+    words = scratch.arguments("Compares the arithmetic of crate encounter with scaled.py.", SEED)
     print("operations: seed %d" % words.seed)
     cases = all_cases(words.seed)
     answers = list(map(expected, cases))
     with tempfile.TemporaryDirectory() as name:
         folder = pathlib.Path(name)
-        scratch(words.root, folder)
+        scratch.repository(words.root, folder, DRIVER, private=["arithmetic"])
         found = list(itertools.islice(differences(folder, cases, answers), SHOWN))
     if found:
         print("\n".join(found))

@@ -12,7 +12,7 @@ use Rattle.exact.specs.declared.Scaled.{Scaled}
 use Rattle.exact.specs.Fraction.{whole, _⊗_, at-most}
 use Rattle.exact.specs.Scaled.{value}
 use Rattle.exact.specs.Bracket.{side-letters, readable, lower-end, upper-end, alert}
-use Rattle.exact.specs.Accepted.{outside, far, input-tests, begin-refusal, Bounds, Accepted}
+use Rattle.exact.specs.Accepted.{outside, miss-outside, tests-3-to-6, begin-refusal, Bounds, Accepted}
 use Rattle.exact.proofs.Accepted.{bounds}
 use Rattle.encounter.specs.declared.state.Session.{Session}
 use Rattle.encounter.specs.declared.state.Answer.{Answer}
@@ -31,48 +31,48 @@ pub outside-some : (n : ℕ) → (n ≡ 0 → ⊥) → ltb 10000000 n ≡ outsid
 unfolding outside
 outside-some n z = rw (ne-eqb n 0 z)
 
-pub far-below : (z : ℤ) → ltZ z (negsuc 9999999) ≡ true → true ≡ far z
-unfolding far
+pub far-below : (z : ℤ) → ltZ z (negsuc 9999999) ≡ true → true ≡ miss-outside z
+unfolding miss-outside
 far-below (pos n) h = absurd (subst T (sym h) tt)
 far-below (negsuc n) h = let l = ltb-true 9999999 n h in sym (lt-ltb 10000000 (suc n) (omega arith))
 
-pub far-above : (z : ℤ) → ltZ z (negsuc 9999999) ≡ false → ltZ (pos 10000000) z ≡ far z
-unfolding far
+pub far-above : (z : ℤ) → ltZ z (negsuc 9999999) ≡ false → ltZ (pos 10000000) z ≡ miss-outside z
+unfolding miss-outside
 far-above (pos n) h = refl
 far-above (negsuc n) h = let l = ltb-false 9999999 n h in sym (le-ltb 10000000 (suc n) (omega arith))
 
 -- tests 3 to 6, up to the first that refuses
 module _ (E : Encounter) (rest : ℕ) where
-  pub test-3 : outside (E .R) ≡ true → 3 ≡ input-tests E rest
-  unfolding input-tests
+  pub test-3 : outside (E .R) ≡ true → 3 ≡ tests-3-to-6 E rest
+  unfolding tests-3-to-6
   test-3 a = rw a
 
   module _ (a : outside (E .R) ≡ false) where
-    pub test-4-sx : outside (E .sx) ≡ true → 4 ≡ input-tests E rest
-    unfolding input-tests
+    pub test-4-sx : outside (E .sx) ≡ true → 4 ≡ tests-3-to-6 E rest
+    unfolding tests-3-to-6
     test-4-sx b = rw (a, b)
 
     module _ (b : outside (E .sx) ≡ false) where
-      pub test-4-sy : outside (E .sy) ≡ true → 4 ≡ input-tests E rest
-      unfolding input-tests
+      pub test-4-sy : outside (E .sy) ≡ true → 4 ≡ tests-3-to-6 E rest
+      unfolding tests-3-to-6
       test-4-sy c = rw (a, b, c)
 
       module _ (c : outside (E .sy) ≡ false) where
-        pub test-5 : E .sx < E .sy → 5 ≡ input-tests E rest
-        unfolding input-tests
+        pub test-5 : E .sx < E .sy → 5 ≡ tests-3-to-6 E rest
+        unfolding tests-3-to-6
         test-5 d = rw (a, b, c, lt-ltb _ _ d)
 
         module _ (d : E .sy ≤ E .sx) where
-          pub test-6-xm : far (E .xm) ≡ true → 6 ≡ input-tests E rest
-          unfolding input-tests
+          pub test-6-xm : miss-outside (E .xm) ≡ true → 6 ≡ tests-3-to-6 E rest
+          unfolding tests-3-to-6
           test-6-xm e = rw (a, b, c, le-ltb _ _ d, e)
 
-          pub test-6-ym : far (E .xm) ≡ false → far (E .ym) ≡ true → 6 ≡ input-tests E rest
-          unfolding input-tests
+          pub test-6-ym : miss-outside (E .xm) ≡ false → miss-outside (E .ym) ≡ true → 6 ≡ tests-3-to-6 E rest
+          unfolding tests-3-to-6
           test-6-ym e f = rw (a, b, c, le-ltb _ _ d, e, f)
 
-          pub tests-pass : far (E .xm) ≡ false → far (E .ym) ≡ false → rest ≡ input-tests E rest
-          unfolding input-tests
+          pub tests-pass : miss-outside (E .xm) ≡ false → miss-outside (E .ym) ≡ false → rest ≡ tests-3-to-6 E rest
+          unfolding tests-3-to-6
           tests-pass e f = rw (a, b, c, le-ltb _ _ d, e, f)
 
 -- ---- begin
@@ -81,9 +81,9 @@ abbrev nested : Bool → Bool → Bool → Bool → ℕ → ℕ
 nested a b c d rest = cond a 3 (cond b 4 (cond c 5 (cond d 6 rest)))
 
 -- a test of 3 to 6 that refuses does so whatever follows
-early : (E : Encounter) (rest : ℕ) → 0 < input-tests E 0 → input-tests E rest ≡ input-tests E 0
-unfolding input-tests
-early E rest h = go (outside (E .R)) (outside (E .sx) || outside (E .sy)) (ltb (E .sx) (E .sy)) (far (E .xm) || far (E .ym)) h
+early : (E : Encounter) (rest : ℕ) → 0 < tests-3-to-6 E 0 → tests-3-to-6 E rest ≡ tests-3-to-6 E 0
+unfolding tests-3-to-6
+early E rest h = go (outside (E .R)) (outside (E .sx) || outside (E .sy)) (ltb (E .sx) (E .sy)) (miss-outside (E .xm) || miss-outside (E .ym)) h
   where
     go : (a b c d : Bool) → 0 < nested a b c d 0 → nested a b c d rest ≡ nested a b c d 0
     go true b c d h = refl
@@ -93,9 +93,9 @@ early E rest h = go (outside (E .R)) (outside (E .sx) || outside (E .sy)) (ltb (
     go false false false false h = let f : ⊥ = omega arith in absurd f
 
 -- where none of them refuses, what follows decides
-late : (E : Encounter) (rest : ℕ) → input-tests E 0 ≡ 0 → input-tests E rest ≡ rest
-unfolding input-tests
-late E rest h = go (outside (E .R)) (outside (E .sx) || outside (E .sy)) (ltb (E .sx) (E .sy)) (far (E .xm) || far (E .ym)) h
+late : (E : Encounter) (rest : ℕ) → tests-3-to-6 E 0 ≡ 0 → tests-3-to-6 E rest ≡ rest
+unfolding tests-3-to-6
+late E rest h = go (outside (E .R)) (outside (E .sx) || outside (E .sy)) (ltb (E .sx) (E .sy)) (miss-outside (E .xm) || miss-outside (E .ym)) h
   where
     go : (a b c d : Bool) → nested a b c d 0 ≡ 0 → nested a b c d rest ≡ rest
     go true b c d h = let f : ⊥ = omega arith in absurd f
@@ -106,13 +106,13 @@ late E rest h = go (outside (E .R)) (outside (E .sx) || outside (E .sy)) (ltb (E
 
 module _ (E : Encounter) (s : Session) where
   -- refused by a test of 3 to 6
-  pub begin-early : {r : ℕ} {a : Answer} → r ≡ input-tests E 0 → 0 < r → a ≡ refused r → record { answer = a; session = s } ≡ begin-call E s
+  pub begin-early : {r : ℕ} {a : Answer} → r ≡ tests-3-to-6 E 0 → 0 < r → a ≡ refused r → record { answer = a; session = s } ≡ begin-call E s
   unfolding begin-call begin-refusal
   begin-early {r} e h f =
-      let p : 0 < input-tests E 0 = rw (← e) h in
-      rw (f, early E _ p, e, ne-eqb (input-tests E 0) 0 (λ z. omega arith))
+      let p : 0 < tests-3-to-6 E 0 = rw (← e) h in
+      rw (f, early E _ p, e, ne-eqb (tests-3-to-6 E 0) 0 (λ z. omega arith))
 
-  module _ (z : input-tests E 0 ≡ 0) where
+  module _ (z : tests-3-to-6 E 0 ≡ 0) where
     pub passed-bounds : Bounds E
     passed-bounds = bounds E 0 z .0
 

@@ -5,11 +5,11 @@ use mathlib.Core.Logic.{inr}
 use Prim.Native.Nat.{ℕ, suc, _^_}
 use lib.Dec.{lit<, lit≤}
 use Rattle.exact.specs.declared.Scaled.{Scaled}
-use Rattle.exact.specs.Scaled.{value, InRange}
+use Rattle.exact.specs.Scaled.{one, value, InRange}
 use Rattle.exact.specs.Rounding.{round}
 use Rattle.exact.specs.Encounter.{Encounter}
 use Rattle.exact.specs.Steps.{Letters as StepLetters, first, terms, next-d, tail-term, next-power, powers, bound}
-use Rattle.exact.specs.Bracket.{one, side-letters, side-start, side-terms, side-powers, M, d}
+use Rattle.exact.specs.Bracket.{side-letters, side-start, side-terms, side-powers, M, d}
 use Rattle.exact.specs.Accepted.{Bounds}
 use Rattle.exact.specs.Ranges.{Letters-in, Powers-in}
 use Rattle.exact.proofs.Ranges.{widen}

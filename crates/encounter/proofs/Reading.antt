@@ -6,10 +6,10 @@ use native.Mathlib.Omega.{arith}
 use lib.Dec.{lit<, lit≤}
 use Rattle.exact.specs.declared.Scaled.{Scaled}
 use Rattle.exact.specs.Fraction.{_≼_, whole, _⊕_, _⊘_, at-most}
-use Rattle.exact.specs.Scaled.{value, double, Normal, IsScaled, InRange}
+use Rattle.exact.specs.Scaled.{one, value, double, Normal, IsScaled, InRange}
 use Rattle.exact.specs.Rounding.{round}
 use Rattle.exact.specs.Encounter.{Encounter}
-use Rattle.exact.specs.Bracket.{one, side-letters, side-powers, sum-to, M, d, tail-bound, upper-exponential, lower-exponential, lower-end, upper-end, readable}
+use Rattle.exact.specs.Bracket.{side-letters, side-powers, sum-to, M, d, tail-bound, upper-exponential, lower-exponential, lower-end, upper-end, readable}
 use Rattle.exact.proofs.Fractions.{≼-trans, num-pos}
 use Rattle.exact.proofs.Rounding.{round-is}
 use Rattle.exact.proofs.Operations.{normal, whole-exact}

@@ -1,4 +1,4 @@
--- A number below 2^63 is moved down by g bits, or by 63 where g is more: both leave the same.
+-- A number below 2^63 is with-exponent down by g bits, or by 63 where g is more: both leave the same.
 use mathlib.Core.Path.{_≡_, sym, _∙_}
 use mathlib.Core.Logic.{⊎-elim}
 use Prim.Native.Nat.{ℕ, _*_, _/_, _%_, _^_, _≤_, _<_, min}

@@ -4,11 +4,11 @@ use mathlib.Core.Bool.{false, cond}
 use mathlib.Core.List.{List, [], _∷_}
 use Prim.Native.Nat.{ℕ, _+_, _*_, _^_, _≤_}
 use lib.Dec.{eqb}
-use Rattle.exact.specs.Fraction.{_≼_, _⊗_, _⊘_, _↑_, _over_}
+use Rattle.exact.specs.Fraction.{_≼_, _⊗_, _↑_, _over_}
 use Rattle.exact.specs.Scaled.{value}
 use Rattle.exact.specs.Rounding.{slack}
 use Rattle.exact.specs.Encounter.{Encounter}
-use Rattle.exact.specs.Series.{series, exponential}
+use Rattle.exact.specs.Series.{quotient}
 use Rattle.exact.specs.Bracket.{sum-to, tail-bound, lower-end, upper-end}
 use Rattle.encounter.specs.declared.state.Session.{Session}
 use Rattle.encounter.specs.declared.state.Answer.{Answer}
@@ -53,7 +53,7 @@ pub record Encloses (E : Encounter) (N : ℕ) (a : Answer) : Type 0 where
   pub lower-is : a .lower ≡ lower-end E N
   pub upper-is : a .upper ≡ upper-end E N
   -- "at whatever later point the two exact sums are cut (the series at N terms or more, the exponential at 256 or more), their quotient lies between"
-  pub between : (N′ K : ℕ) → N ≤ N′ → 256 ≤ K → (value (a .lower) ≼ series E N′ ⊘ exponential E K) × (series E N′ ⊘ exponential E K ≼ value (a .upper))
+  pub between : (N′ K : ℕ) → N ≤ N′ → 256 ≤ K → (value (a .lower) ≼ quotient E N′ K) × (quotient E N′ K ≼ value (a .upper))
   -- "Where the tail bound is at most 2^-31 of the lower sum, the upper end is also at most the lower end × (1 + 2^-31)^(18N + 2,600)."
   pub close : tail-bound E N ≼ (1 over (2 ^ 31)) ⊗ value (sum-to false E N) → value (a .upper) ≼ value (a .lower) ⊗ slack 31 ↑ (18 * N + 2600)
 

@@ -5,12 +5,12 @@ use mathlib.Core.List.{List, [], _∷_}
 use Prim.Native.Nat.{ℕ, _+_, _^_}
 use lib.IntN.{pos, negsuc}
 use Rattle.exact.specs.declared.Scaled.{Scaled}
-use Rattle.exact.specs.Fraction.{Frac, _≈_, _over_, whole}
+use Rattle.exact.specs.Fraction.{Frac, _≈_, _over_, _⊗_, whole}
 use Rattle.exact.specs.Scaled.{scaled, nought, value}
 use Rattle.exact.specs.Rounding.{D, U}
 use Rattle.exact.specs.Encounter.{Encounter, encounter-of, u, h, X, Y, t, a₀}
 use Rattle.exact.specs.Series.{c}
-use Rattle.exact.specs.Bracket.{side-letters, side-start, side-terms, M, tail-bound, lower-end, upper-end, readable}
+use Rattle.exact.specs.Bracket.{side-letters, side-start, side-terms, M, tail-bound, lower-end, upper-end, alert, readable}
 use Rattle.exact.specs.Accepted.{begin-refusal}
 
 -- a case: what is computed, and what the paper says that it is
@@ -84,10 +84,13 @@ stars =
     ∷ scaled-is (side-terms true E₁ 1 .c) an-eighth
     ∷ scaled-is (M E₁) a-half
     -- ★ Same, N = 1: tail bound 1/4; a read is accepted, as 1 ≤ 3.
+    ∷ number-is (begin-refusal E₁) 0
     ∷ fraction-is (tail-bound E₁ 1) (1 over 4)
+    ∷ fraction-is (whole 2 ⊗ value (M E₁)) (whole 1)
     ∷ test-is (readable E₁ 1) true
     -- ★ (8, 1, 1, 8, 0): t = 64, accepted; M = 1,056.
     ∷ fraction-is (t E₂) (whole 64)
+    ∷ fraction-is (value (side-letters false E₂ .t)) (whole 64)
     ∷ fraction-is (value (side-letters true E₂ .t)) (whole 64)
     ∷ number-is (begin-refusal E₂) 0
     ∷ fraction-is (value (M E₂)) (whole 1056)
@@ -100,6 +103,8 @@ stars =
     ∷ number-is (begin-refusal E₄) (begin-refusal E₂)
     ∷ scaled-is (M E₄) (M E₂)
     ∷ test-is (readable E₄ 2109) (readable E₂ 2109)
+    ∷ test-is (readable E₄ 2110) (readable E₂ 2110)
     ∷ scaled-is (lower-end E₄ 2110) (lower-end E₂ 2110)
     ∷ scaled-is (upper-end E₄ 2110) (upper-end E₂ 2110)
+    ∷ test-is (alert E₄ 2110) (alert E₂ 2110)
     ∷ []

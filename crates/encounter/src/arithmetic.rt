@@ -7,12 +7,12 @@ ghost use Rattle.exact.specs.Fraction.{_⊕_, _⊗_, _÷_, _⊘_, _over_, at-mo
 ghost use Rattle.exact.specs.Scaled.{value, half, double, Normal, InRange};
 ghost use Rattle.exact.specs.Rounding.{round};
 use crate::exponent::gap;
-use crate::exponent::lower;
+use crate::exponent::lowered;
 use crate::exponent::minus;
 use crate::exponent::plus;
-use crate::exponent::raise;
-use crate::rounding::narrow;
-use crate::rounding::near;
+use crate::exponent::raised;
+use crate::rounding::pack_any;
+use crate::rounding::pack_wide;
 use exact::Scaled;
 
 // a × b.
@@ -29,7 +29,7 @@ pub fn product(up: bool, a: Scaled, b: Scaled) -> Scaled
     }
     let x = a.e;
     let y = b.e;
-    let r = near(up, (a.m as u64) * (b.m as u64), plus(x, y), false);
+    let r = pack_wide(up, (a.m as u64) * (b.m as u64), plus(x, y), false);
     r.value
 }
 
@@ -68,7 +68,7 @@ fn aligned(up: bool, a: Scaled, b: Scaled, g: u32) -> Scaled
     let e = a.e;
     let y = (b.m as u64) * 2147483648;
     let h = (a.m as u64) * 2147483648 + shifted(y, g);
-    let r = near(up, h, lower(e, 31), remains(y, g));
+    let r = pack_wide(up, h, lowered(e, 31), remains(y, g));
     r.value
 }
 
@@ -104,7 +104,7 @@ pub fn over(up: bool, a: Scaled, k: u32) -> Scaled
     let n = (a.m as u64) * 4294967296;
     let d = k as u64;
     let x = a.e;
-    let r = narrow(up, n / d, lower(x, 32), 0 < n % d);
+    let r = pack_any(up, n / d, lowered(x, 32), 0 < n % d);
     r.value
 }
 
@@ -120,7 +120,7 @@ pub fn quotient(up: bool, a: Scaled, b: Scaled) -> Scaled
     let d = b.m as u64;
     let x = a.e;
     let y = b.e;
-    let r = narrow(up, n / d, lower(minus(x, y), 32), 0 < n % d);
+    let r = pack_any(up, n / d, lowered(minus(x, y), 32), 0 < n % d);
     r.value
 }
 
@@ -141,7 +141,7 @@ pub fn ratio(up: bool, n: u64, d: u64) -> Scaled
         rest = next % d;
         i += 16;
     }
-    let r = narrow(up, q, lower(0, i), 0 < rest);
+    let r = pack_any(up, q, lowered(0, i), 0 < rest);
     r.value
 }
 
@@ -155,7 +155,7 @@ pub fn halved(a: Scaled) -> Scaled
     if m == 0 {
         return Scaled::ZERO;
     }
-    let e = lower(x, 1);
+    let e = lowered(x, 1);
     Scaled { m, e }
 }
 
@@ -169,12 +169,12 @@ pub fn doubled(a: Scaled) -> Scaled
     if m == 0 {
         return Scaled::ZERO;
     }
-    let e = raise(x, 1);
+    let e = raised(x, 1);
     Scaled { m, e }
 }
 
 // Whether a is at most b.
-pub fn compare(a: Scaled, b: Scaled) -> bool
+pub fn at_most(a: Scaled, b: Scaled) -> bool
     requires { ⌜ (InRange 32 (2 ^ 28) a) × (InRange 32 (2 ^ 28) b) ⌝ }
     ensures { λ r. ⌜ r ≡ at-most (value a) (value b) ⌝ }
 {

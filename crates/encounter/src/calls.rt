@@ -9,11 +9,11 @@ ghost use Rattle.exact.specs.Rounding.{round};
 ghost use Rattle.exact.specs.Steps.{first};
 ghost use Rattle.exact.specs.Ranges.{Letters-in};
 ghost use Rattle.exact.specs.Bracket.{side-letters, lower-end, upper-end, readable};
-ghost use Rattle.exact.specs.Accepted.{outside as is-outside, far as is-far, input-tests, Accepted};
+ghost use Rattle.exact.specs.Accepted.{outside as is-outside, miss-outside as is-far, tests-3-to-6, Accepted};
 ghost use Rattle.encounter.specs.Session.{empty as none, state, encounter, Begun, held-letters, held-terms, refused, counted, class-of, step-letters};
 ghost use Rattle.encounter.specs.Calls.{begin-call, add-call, read-call, Reached};
 ghost use Rattle.encounter.specs.Enclosure.{Enclosed};
-use crate::arithmetic::compare;
+use crate::arithmetic::at_most;
 use crate::arithmetic::doubled;
 use crate::arithmetic::quotient;
 use crate::arithmetic::sum;
@@ -120,7 +120,7 @@ fn far(z: i32) -> bool
 
 // Tests 3 to 6: the number of the first that refuses, or 0.
 fn test_inputs(R: u32, sx: u32, sy: u32, xm: i32, ym: i32) -> u32
-    ensures { λ r. ⌜ r ≡ input-tests (encounter-of R sx sy xm ym) 0 ⌝ }
+    ensures { λ r. ⌜ r ≡ tests-3-to-6 (encounter-of R sx sy xm ym) 0 ⌝ }
 {
     if outside(R) {
         return 3;
@@ -199,7 +199,7 @@ pub fn begin(s: Session, R: u32, sx: u32, sy: u32, xm: i32, ym: i32) -> Called
         };
     }
     let above = letters(true, R, sx, sy, xm, ym);
-    if compare(above.t, Scaled::whole(64)) {
+    if at_most(above.t, Scaled::whole(64)) {
         let session = opened(R, sx, sy, xm, ym, above);
         Called {
             answer: count_to(1),
@@ -295,7 +295,7 @@ fn classify(lower: Scaled) -> Class
     requires { ⌜ InRange 32 (2 ^ 28) lower ⌝ }
     ensures { λ r. ⌜ r ≡ class-of (at-most (wholeNumber 1) (value lower ⊗ wholeNumber 10000)) ⌝ }
 {
-    if compare(THRESHOLD, lower) {
+    if at_most(THRESHOLD, lower) {
         Class::Alert
     } else {
         Class::Clear
@@ -308,7 +308,7 @@ fn may_read(s: Session) -> bool
     ensures { λ r. ⌜ r ≡ readable (encounter s) (s .N) ⌝ }
 {
     let M = s.M;
-    compare(doubled(M), Scaled::whole(s.N + 2))
+    at_most(doubled(M), Scaled::whole(s.N + 2))
 }
 
 pub fn read(s: Session) -> Answer

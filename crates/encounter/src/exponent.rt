@@ -20,14 +20,14 @@ pub fn minus(a: i32, b: i32) -> i32
     a - b
 }
 
-pub fn raise(e: i32, t: u32) -> i32
+pub fn raised(e: i32, t: u32) -> i32
     requires { ⌜ posPart e + t < 2 ^ 31 ⌝ }
     ensures { λ r. ⌜ r ≡ e +ℤ pos t ⌝ }
 {
     e + (t as i32)
 }
 
-pub fn lower(e: i32, t: u32) -> i32
+pub fn lowered(e: i32, t: u32) -> i32
     requires { ⌜ negPart e + t < 2 ^ 31 ⌝ }
     ensures { λ r. ⌜ r ≡ e -ℤ pos t ⌝ }
 {

@@ -1,10 +1,9 @@
 // One side's exponential.
 ghost use mathlib.Core.Path.{_≡_};
 ghost use Prim.Native.Nat.{_^_, _<_};
-ghost use Rattle.exact.specs.Scaled.{value, InRange};
+ghost use Rattle.exact.specs.Scaled.{one, value, InRange};
 ghost use Rattle.exact.specs.Rounding.{round};
 ghost use Rattle.exact.specs.Steps.{next-power, powers as powersOf};
-ghost use Rattle.exact.specs.Bracket.{one};
 ghost use Rattle.exact.specs.Ranges.{Powers-in};
 ghost use Rattle.encounter.specs.Session.{held-powers, step-powers};
 use crate::arithmetic::over;

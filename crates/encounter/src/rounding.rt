@@ -6,7 +6,7 @@ ghost use lib.Dec.{ltb};
 ghost use lib.IntN.{pos, _+ℤ_};
 ghost use Rattle.exact.specs.Integer.{posPart};
 ghost use Rattle.exact.specs.Rounding.{finish as finishOf, pack, inexact};
-use crate::exponent::raise;
+use crate::exponent::raised;
 use exact::Scaled;
 
 // A rounded number, and whether the rounding lost anything.
@@ -41,7 +41,7 @@ fn finish(m: u32, e: i32, on: bool) -> Scaled
 {
     if on {
         if m == 4294967295 {
-            let next = raise(e, 1);
+            let next = raised(e, 1);
             Scaled {
                 m: 2147483648,
                 e: next,
@@ -60,12 +60,12 @@ fn trim(up: bool, m: u32, e: i32, t: u32, s: bool, rest: u64) -> Rounded
     ensures { λ r. ⌜ (r .value ≡ finishOf 32 m (e +ℤ pos t) (up && (s || ltb 0 rest))) × (r .lost ≡ (s || ltb 0 rest)) ⌝ }
 {
     let lost = cut(s, rest);
-    let value = finish(m, raise(e, t), both(up, lost));
+    let value = finish(m, raised(e, t), both(up, lost));
     Rounded { value, lost }
 }
 
 // For h of 63 or 64 bits: one of two constant shifts.
-pub fn near(up: bool, h: u64, e: i32, s: bool) -> Rounded
+pub fn pack_wide(up: bool, h: u64, e: i32, s: bool) -> Rounded
     requires { ⌜ (2 ^ 62 ≤ h) × (posPart e + 33 < 2 ^ 31) ⌝ }
     ensures { λ r. ⌜ (r .value ≡ pack up 32 h e s) × (r .lost ≡ inexact 32 h s) ⌝ }
 {
@@ -77,7 +77,7 @@ pub fn near(up: bool, h: u64, e: i32, s: bool) -> Rounded
 }
 
 // For h of 32 bits or more.
-pub fn narrow(up: bool, h: u64, e: i32, s: bool) -> Rounded
+pub fn pack_any(up: bool, h: u64, e: i32, s: bool) -> Rounded
     requires { ⌜ (2 ^ 31 ≤ h) × (posPart e + 33 < 2 ^ 31) ⌝ }
     ensures { λ r. ⌜ (r .value ≡ pack up 32 h e s) × (r .lost ≡ inexact 32 h s) ⌝ }
 {

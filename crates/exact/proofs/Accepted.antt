@@ -11,7 +11,7 @@ use Rattle.exact.specs.Fraction.{_≼_, _over_, whole}
 use Rattle.exact.specs.Scaled.{value}
 use Rattle.exact.specs.Encounter.{Encounter, g}
 use Rattle.exact.specs.Bracket.{side-letters}
-use Rattle.exact.specs.Accepted.{outside, far, input-tests, begin-refusal, Bounds, Accepted}
+use Rattle.exact.specs.Accepted.{outside, miss-outside, tests-3-to-6, begin-refusal, Bounds, Accepted}
 use Rattle.exact.proofs.Integers.{balanced, bal-diff}
 use Rattle.exact.proofs.Order.{at-most-holds}
 
@@ -39,16 +39,16 @@ inside n h =
     (omega arith, ltb-false 10000000 n l)
 
 -- the tests 3 to 6 passed, and what follows them says 0
-pub bounds : (E : Encounter) (rest : ℕ) → input-tests E rest ≡ 0 → Bounds E × (rest ≡ 0)
-unfolding input-tests far
+pub bounds : (E : Encounter) (rest : ℕ) → tests-3-to-6 E rest ≡ 0 → Bounds E × (rest ≡ 0)
+unfolding tests-3-to-6 miss-outside
 bounds E rest h =
     let (t3, r3) = passed 2 (outside (E .R)) _ h in
     let (t4, r4) = passed 3 (outside (E .sx) || outside (E .sy)) _ r3 in
     let (t5, r5) = passed 4 (ltb (E .sx) (E .sy)) _ r4 in
-    let (t6, r6) = passed 5 (far (E .xm) || far (E .ym)) _ r5 in
+    let (t6, r6) = passed 5 (miss-outside (E .xm) || miss-outside (E .ym)) _ r5 in
     let R = inside (E .R) t3 in
     let (sx, sy) = neither (outside (E .sx)) (outside (E .sy)) t4 in
-    let (xm, ym) = neither (far (E .xm)) (far (E .ym)) t6 in (
+    let (xm, ym) = neither (miss-outside (E .xm)) (miss-outside (E .ym)) t6 in (
       record {
         R-pos = R .0;
         R-max = R .1;

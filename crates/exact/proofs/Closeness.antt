@@ -5,11 +5,11 @@ use native.Mathlib.Bridge.{le-by-compare, IsLe}
 use native.Mathlib.Nat.{suc-pred-eq-of-pos}
 use native.Mathlib.Omega.{arith}
 use Rattle.exact.specs.Fraction.{Frac, _≼_, _⊕_, _⊗_, _÷_, _⊘_, _↑_, _over_, whole}
-use Rattle.exact.specs.Scaled.{value}
+use Rattle.exact.specs.Scaled.{one, value}
 use Rattle.exact.specs.Rounding.{D, U, round, slack}
 use Rattle.exact.specs.Encounter.{Encounter}
 use Rattle.exact.specs.Steps.{add, mul, div, powers, next-power}
-use Rattle.exact.specs.Bracket.{one, side-letters, side-start, side-terms, side-powers, sum-to, tail-bound, upper-exponential, lower-exponential, lower-end, upper-end}
+use Rattle.exact.specs.Bracket.{side-letters, side-start, side-terms, side-powers, sum-to, tail-bound, upper-exponential, lower-exponential, lower-end, upper-end}
 use Rattle.exact.specs.Accepted.{Accepted}
 use Rattle.exact.proofs.Fractions.{≼-refl, ≼-trans, ≼-of, ≽-of, add-mono, mul-mono, num-pos, quot-mono, quot-mul}
 use Rattle.exact.proofs.Rounding.{round-close}

@@ -104,5 +104,5 @@ module _ (u h X Y a₀ : Frac) where
 
   -- a(n+1) = (F(0)a(n) + .. + F(n)a(0))/(n+1)
   pub a-suc : (n : ℕ) → a u h X Y a₀ (suc n) ≈ sum (λ k. F u h X Y k ⊗ a u h X Y a₀ (n - k)) (suc n) ÷ suc n
-  unfolding a
+  unfolding upto a
   a-suc n = div-cong (suc n) (dot-is n (F u h X Y))

@@ -7,12 +7,12 @@ use native.Mathlib.Numerals.{add-two}
 use native.Mathlib.Omega.{arith}
 use lib.Dec.{lit<}
 use Rattle.exact.specs.Fraction.{Frac, _≼_, _≈_, _⊕_, _⊗_, _÷_, _⊘_, _↑_, _over_, whole, sum}
-use Rattle.exact.specs.Scaled.{value}
+use Rattle.exact.specs.Scaled.{one, value}
 use Rattle.exact.specs.Rounding.{D, U, round, slack}
 use Rattle.exact.specs.Encounter.{Encounter, u, g, h, X, Y, t, a₀}
-use Rattle.exact.specs.Series.{factorial, power-term, series, exponential}
+use Rattle.exact.specs.Series.{factorial, exponential-term, series, exponential, quotient}
 use Rattle.exact.specs.Steps.{add, start, powers, next-power, bound, tail-term, next-d, mul, div}
-use Rattle.exact.specs.Bracket.{one, side-letters, side-start, side-terms, side-powers, sum-to, M, d, tail-bound, upper-exponential, lower-exponential, lower-end, upper-end, readable}
+use Rattle.exact.specs.Bracket.{side-letters, side-start, side-terms, side-powers, sum-to, M, d, tail-bound, upper-exponential, lower-exponential, lower-end, upper-end, readable}
 use Rattle.exact.specs.Accepted.{Accepted}
 use Rattle.exact.proofs.Fractions.{≼-refl, ≼-trans, ≼-of, ≽-of, add-mono, mul-mono, div-mono, num-pos, quot-mono}
 use Rattle.exact.proofs.Rounding.{round-is, round-close}
@@ -74,10 +74,10 @@ one-pos = lit< tt
 
 pub exponential-pos : (E : Encounter) (K : ℕ) → 0 < K → 0 < (exponential E K) .num
 unfolding exponential
-exponential-pos E K l = num-pos (≼-trans first (sum-longer (power-term (t E)) 1 K l)) one-pos
+exponential-pos E K l = num-pos (≼-trans first (sum-longer (exponential-term (t E)) 1 K l)) one-pos
   where
-    first : whole 1 ≼ sum (power-term (t E)) 1
-    first = unfold sum power-term _↑_ factorial _⊕_ _÷_ whole in record { le = omega arith }
+    first : whole 1 ≼ sum (exponential-term (t E)) 1
+    first = unfold sum exponential-term _↑_ factorial _⊕_ _÷_ whole in record { le = omega arith }
 
 -- g is at most 1, so h is at most u
 shrink : (u g : Frac) → g .num ≤ g .den → u ⊗ g ≼ u
@@ -150,7 +150,7 @@ module _ (E : Encounter) where
       ≼-trans (≽-of (powers-are (t E) k .sum-is))
       (powers-close same same value (round true 32) (λ w p q. p ≼ q) above (whole 1) (t E) one _ (≽-of one-is) (upper-letters .t) k .sum)
 
-  le-upper-r : (k : ℕ) → power-term (t E) k ≼ value (side-powers true E k .r)
+  le-upper-r : (k : ℕ) → exponential-term (t E) k ≼ value (side-powers true E k .r)
   unfolding side-powers
   le-upper-r k =
       ≼-trans (≽-of (powers-are (t E) k .r-is))
@@ -206,7 +206,8 @@ module _ (E : Encounter) where
 
 -- The enclosure. N ≥ 1 is any order with 2M ≤ N + 2; N′ and K are the two later cuts, chosen independently.
 pub enclosed : {E : Encounter} → Accepted E → (N : ℕ) → 1 ≤ N → readable E N ≡ true → (N′ K : ℕ) → N ≤ N′ → 256 ≤ K
-    → (value (lower-end E N) ≼ series E N′ ⊘ exponential E K) × (series E N′ ⊘ exponential E K ≼ value (upper-end E N))
+    → (value (lower-end E N) ≼ quotient E N′ K) × (quotient E N′ K ≼ value (upper-end E N))
+unfolding quotient
 enclosed h zero N₁ r N′ K l k = let f : ⊥ = omega arith in absurd f
 enclosed {E} h (suc n) N₁ r N′ K l k = (lower-end-le E n N′ K l k (facts h .t-max), le-upper-end E n N′ K l k M≤)
   where

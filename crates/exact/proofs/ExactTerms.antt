@@ -5,7 +5,7 @@ use Prim.Native.Nat.{ℕ, zero, suc, _*_, _<_}
 use native.Mathlib.Nat.{zero-lt-suc, mul-pos}
 use native.Mathlib.Omega.{arith}
 use Rattle.exact.specs.Fraction.{Frac, _≈_, _⊕_, _⊗_, _÷_, _↑_, whole}
-use Rattle.exact.specs.Series.{factorial, dot, F₀, F, upto, a, c}
+use Rattle.exact.specs.Series.{factorial, dot, F-without-Y, F, upto, a, c}
 use Rattle.exact.proofs.Fractions.{≈-refl, ≈-sym, ≈-trans, cong, add-cong, mul-cong, mul-assoc, div-add, div-mul, div-cong, div-div, div-twice}
 use Rattle.exact.proofs.Convolution.{dot-cong, dot-add, dot-scale, dot-div, p-cons, v-cons, y-cons}
 
@@ -32,13 +32,13 @@ split-F : (w x Y r : Frac) → (w ⊕ Y) ⊗ x ⊕ r ≈ w ⊗ x ⊕ r ⊕ Y ⊗
 unfolding _⊕_ _⊗_
 split-F w x Y r = record { eq = omega arith }
 
-F-cons : (u h X Y x : Frac) (l : List Frac) → dot (F u h X Y) (x ∷ l) ≈ dot (F₀ u h X Y) (x ∷ l) ⊕ Y ⊗ x
+F-cons : (u h X Y x : Frac) (l : List Frac) → dot (F u h X Y) (x ∷ l) ≈ dot (F-without-Y u h X Y) (x ∷ l) ⊕ Y ⊗ x
 unfolding dot F
-F-cons u h X Y x l = split-F (F₀ u h X Y 0) x Y (dot (λ k. F₀ u h X Y (suc k)) l)
+F-cons u h X Y x l = split-F (F-without-Y u h X Y 0) x Y (dot (λ k. F-without-Y u h X Y (suc k)) l)
 
-F₀-dot : (u h X Y : Frac) (l : List Frac) → dot (F₀ u h X Y) l ≈ dot (λ k. u ↑ suc k) l ⊕ h ⊗ dot (λ k. h ↑ k) l ÷ 2 ⊕ X ⊗ dot (λ k. whole (suc k) ⊗ h ↑ k) l
-unfolding F₀
-F₀-dot u h X Y l =
+F-without-Y-dot : (u h X Y : Frac) (l : List Frac) → dot (F-without-Y u h X Y) l ≈ dot (λ k. u ↑ suc k) l ⊕ h ⊗ dot (λ k. h ↑ k) l ÷ 2 ⊕ X ⊗ dot (λ k. whole (suc k) ⊗ h ↑ k) l
+unfolding F-without-Y
+F-without-Y-dot u h X Y l =
     grw (
       cong,
       dot-add (λ k. u ↑ suc k ⊕ h ↑ suc k ÷ 2) (λ k. X ⊗ whole (suc k) ⊗ h ↑ k) l,
@@ -108,21 +108,21 @@ module _ (u h X Y a₀ : Frac) where
   y-zero = record { eq = omega arith }
 
   pub c-zero : a₀ ≈ c u h X Y a₀ 0
-  unfolding c a factorial _÷_
+  unfolding c upto a factorial _÷_
   c-zero = record { eq = omega arith }
 
   F-dot : (n : ℕ) → dot (F u h X Y) (upto u h X Y a₀ n) ≈ p-sum n ⊕ h ⊗ v-sum n ÷ 2 ⊕ X ⊗ y-sum n ⊕ Y ⊗ a u h X Y a₀ n
   unfolding p-sum v-sum y-sum
   F-dot n =
-      let e : dot (F u h X Y) (upto u h X Y a₀ n) ≈ dot (F₀ u h X Y) (upto u h X Y a₀ n) ⊕ Y ⊗ a u h X Y a₀ n = rw upto-is (F-cons u h X Y (a u h X Y a₀ n) (before n)) in
-      ≈-trans e (add-cong (F₀-dot u h X Y (upto u h X Y a₀ n)) (≈-refl _))
+      let e : dot (F u h X Y) (upto u h X Y a₀ n) ≈ dot (F-without-Y u h X Y) (upto u h X Y a₀ n) ⊕ Y ⊗ a u h X Y a₀ n = rw upto-is (F-cons u h X Y (a u h X Y a₀ n) (before n)) in
+      ≈-trans e (add-cong (F-without-Y-dot u h X Y (upto u h X Y a₀ n)) (≈-refl _))
 
   spread : (m : ℕ) (q r s t : Frac) → (q ⊕ h ⊗ r ÷ 2 ⊕ X ⊗ s ⊕ Y ⊗ t) ÷ m ≈ q ÷ m ⊕ h ⊗ (r ÷ m) ÷ 2 ⊕ X ⊗ (s ÷ m) ⊕ Y ⊗ (t ÷ m)
   spread m q r s t =
       grw (cong, div-add, div-add, div-add, div-div (h ⊗ r) 2 m, ≈-sym (div-mul h r m), ≈-sym (div-mul X s m), ≈-sym (div-mul Y t m)) (≈-refl _)
 
   pub c-suc : (n : ℕ) → c u h X Y a₀ (suc n) ≈ (p n ⊕ h ⊗ v n ÷ 2 ⊕ X ⊗ y n ⊕ Y ⊗ c u h X Y a₀ n) ÷ (suc n * suc (suc n))
-  unfolding c p v y a
+  unfolding c p v y upto a
   c-suc n =
       let D = dot (F u h X Y) (upto u h X Y a₀ n) in
       ≈-trans (factorial-step (D ÷ suc n) (suc n))

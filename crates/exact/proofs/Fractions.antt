@@ -7,9 +7,14 @@ use Prim.Native.Nat.{ℕ, zero, suc, pred, _*_, _≤_, _<_}
 use native.Mathlib.Nat.{mul-pos, le-of-mul-le-mul-right, lt-of-mul-lt-mul-right, mul-le-mul-right, mul-lt-mul-of-pos-right, mul-le-mul, le-of-eq, le-of-lt, le-antisymm, lt-irrefl, suc-pred-eq-of-pos}
 use native.Mathlib.Omega.{arith}
 use lib.Dec.{T, ltb, ltb→lt, nltb→le}
-use Rattle.exact.specs.Fraction.{Frac, _≼_, _≺_, _≈_, whole, _⊕_, _⊗_, _÷_, _⊘_, _↑_, sum}
+use Rattle.exact.specs.Fraction.{Frac, _≼_, _≈_, whole, _⊕_, _⊗_, _÷_, _⊘_, _↑_, sum}
 
 -- ---- the order
+
+infix 40 _≺_
+-- p is less than q
+pub record _≺_ (p q : Frac) : Type 0 where
+  pub lt : p .num * q .den < q .num * p .den
 
 pub ≼-refl : (p : Frac) → p ≼ p
 ≼-refl p = record { le = omega arith }

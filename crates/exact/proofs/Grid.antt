@@ -8,10 +8,10 @@ use native.Mathlib.Omega.{arith}
 use lib.Dec.{ltb, T, ltb→lt, nltb→le}
 use lib.IntN.{subℕ}
 use lib.Pow.{pow-pos, pow-add, pow-mono}
-use Rattle.exact.specs.Fraction.{Frac, _≼_, _≺_, _≈_}
+use Rattle.exact.specs.Fraction.{Frac, _≼_, _≈_}
 use Rattle.exact.specs.Scaled.{scaled, value}
 use Rattle.exact.proofs.Integers.{bal-sub}
-use Rattle.exact.proofs.Fractions.{≼-trans, ≼-≺, ≺-≼, lt-or-le}
+use Rattle.exact.proofs.Fractions.{_≺_, ≼-trans, ≼-≺, ≺-≼, lt-or-le}
 
 -- m × 2^j / 2^k
 unfoldable pub point : ℕ → ℕ → ℕ → Frac

@@ -3,7 +3,7 @@ use Prim.Native.Nat.{ℕ, zero, suc, _+_, _≤_}
 use native.Mathlib.Nat.{add-suc, add-zero as plus-zero, le-add-right, le-dest}
 use native.Mathlib.Omega.{arith}
 use Rattle.exact.specs.Fraction.{Frac, _≼_, _≈_, _⊕_, _⊗_, _÷_, _↑_, whole, sum}
-use Rattle.exact.specs.Series.{factorial, dot, F₀, F, upto, a, c, power-term}
+use Rattle.exact.specs.Series.{factorial, dot, F-without-Y, F, upto, a, c, exponential-term}
 use Rattle.exact.proofs.Fractions.{≼-refl, ≼-trans, ≼-of, ≽-of, add-mono, mul-mono, div-mono, pow-mono, mono, ≈-refl, ≈-sym, ≈-trans, cong, div-cong, mul-assoc, mul-add}
 use Rattle.exact.proofs.ExactTerms.{factorial-step}
 use Rattle.exact.proofs.Unrounded.{power-step}
@@ -48,7 +48,7 @@ unfolding m _⊕_ _⊗_ _÷_ whole
 m-assoc u h X Y = record { le = omega arith }
 
 -- F(k) with Y in every place
-F-wide : (u h X Y : Frac) (k : ℕ) → F u h X Y k ≼ F₀ u h X Y k ⊕ whole (suc k) ⊗ (u ↑ k ⊗ Y)
+F-wide : (u h X Y : Frac) (k : ℕ) → F u h X Y k ≼ F-without-Y u h X Y k ⊕ whole (suc k) ⊗ (u ↑ k ⊗ Y)
 unfolding F _↑_
 F-wide u h X Y zero = add-mono (≼-refl _) (unfold _⊗_ whole in record { le = omega arith })
 F-wide u h X Y (suc k) = unfold _⊕_ in record { le = omega arith }
@@ -58,8 +58,8 @@ F-le u h X Y l k =
     ≼-trans (F-wide u h X Y k)
     (≼-trans raised (≼-trans (gather k u h X Y (u ↑ k)) (≼-trans power (pow-mono (suc k) (m-assoc u h X Y)))))
   where
-    raised : F₀ u h X Y k ⊕ whole (suc k) ⊗ (u ↑ k ⊗ Y) ≼ u ⊗ u ↑ k ⊕ h ⊗ u ↑ k ÷ 2 ⊕ X ⊗ whole (suc k) ⊗ u ↑ k ⊕ whole (suc k) ⊗ (u ↑ k ⊗ Y)
-    raised = unfold F₀ _↑_ in grw (mono, pow-mono k l, pow-mono k l) (≼-refl _)
+    raised : F-without-Y u h X Y k ⊕ whole (suc k) ⊗ (u ↑ k ⊗ Y) ≼ u ⊗ u ↑ k ⊕ h ⊗ u ↑ k ÷ 2 ⊕ X ⊗ whole (suc k) ⊗ u ↑ k ⊕ whole (suc k) ⊗ (u ↑ k ⊗ Y)
+    raised = unfold F-without-Y _↑_ in grw (mono, pow-mono k l, pow-mono k l) (≼-refl _)
 
     power : u ⊗ u ↑ k ⊕ whole (suc k) ⊗ (u ↑ k ⊗ (h ÷ 2 ⊕ X ⊕ Y)) ≼ (u ⊕ (h ÷ 2 ⊕ X ⊕ Y)) ↑ suc k
     power = unfold _↑_ in binomial u (h ÷ 2 ⊕ X ⊕ Y) k
@@ -90,7 +90,7 @@ module _ (u h X Y a₀ M : Frac) (F≼ : (k : ℕ) → F u h X Y k ≼ M ⊗ M �
       grw (mono, dot-le n (λ k. w (suc k)) (q ⊗ M) (λ k. ≼-trans (l (suc k)) (≽-of (mul-assoc q M (M ↑ k)))), l 0, one-step, dot-le n (F u h X Y) M F≼, cancel) (more n q a₀ M (M ↑ n))
 
   a-le : (n : ℕ) → a u h X Y a₀ n ≼ a₀ ⊗ M ↑ n
-  unfolding a _↑_
+  unfolding upto a _↑_
   a-le zero = unfold _⊗_ whole in record { le = omega arith }
   a-le (suc n) = grw (mono, dot-le n (F u h X Y) M F≼) (cancel n M a₀ (M ↑ n))
 
@@ -173,9 +173,9 @@ module _ (u h X Y a₀ M : Frac) (h≼u : h ≼ u) (m≼M : m u h X Y ≼ M) whe
   series-tail N l = tail (c u h X Y a₀) (exact-d a₀ M) N c-le-d (λ k b. halving (exact-d a₀ M k) M (suc k) (suc (suc N)) l (omega arith))
 
 -- where t is at most 64, the exponential's terms from 256 on come to at most 2t^256/256!, wherever they are cut
-pub exponential-tail : (t : Frac) → t ≼ whole 64 → (K : ℕ) → 256 ≤ K → sum (power-term t) K ≼ sum (power-term t) 256 ⊕ whole 2 ⊗ power-term t 256
+pub exponential-tail : (t : Frac) → t ≼ whole 64 → (K : ℕ) → 256 ≤ K → sum (exponential-term t) K ≼ sum (exponential-term t) 256 ⊕ whole 2 ⊗ exponential-term t 256
 exponential-tail t l =
-    tail (power-term t) (power-term t) 256 (λ k. ≼-refl _) (λ k b. grw (mono, ≼-of (power-step t k)) (halving (power-term t k) t k 128 doubled (omega arith)))
+    tail (exponential-term t) (exponential-term t) 256 (λ k. ≼-refl _) (λ k b. grw (mono, ≼-of (power-step t k)) (halving (exponential-term t k) t k 128 doubled (omega arith)))
   where
     doubled : whole 2 ⊗ t ≼ whole 128
     doubled = unfold _⊗_ whole in record { le = omega (arith, l .le) }

@@ -4,12 +4,12 @@ use mathlib.Core.Bool.{Bool, true, false}
 use Prim.Native.Nat.{ℕ, zero, suc, pred}
 use lib.IntN.{ℤ, pos, negsuc, negℤ}
 use Rattle.exact.specs.declared.Scaled.{Scaled}
-use Rattle.exact.specs.Scaled.{value}
-use Rattle.exact.specs.Fraction.{whole, _⊕_, _⊗_, _⊘_}
+use Rattle.exact.specs.Scaled.{one, value}
+use Rattle.exact.specs.Fraction.{whole, _⊕_, _⊗_, _⊘_, at-most}
 use Rattle.exact.specs.Rounding.{D, U, round}
 use Rattle.exact.specs.Encounter.{Encounter, square, u, b, zx, zy, g, a₀}
 use Rattle.exact.specs.Steps.{Letters, Powers, letters, start, terms, powers, bound, tail-term}
-use Rattle.exact.specs.Bracket.{one, side-letters, side-start, side-terms, side-powers, sum-to, M, d, tail-bound, upper-exponential, lower-exponential, lower-end, upper-end}
+use Rattle.exact.specs.Bracket.{side-letters, side-start, side-terms, side-powers, sum-to, M, d, tail-bound, upper-exponential, lower-exponential, lower-end, upper-end, alert}
 
 abbrev pub mirrored : Encounter → Encounter
 mirrored E = record { R = E .R; sx = E .sx; sy = E .sy; xm = negℤ (E .xm); ym = E .ym }
@@ -48,3 +48,7 @@ pub upper-mirror : (E : Encounter) (N : ℕ) → upper-end (mirrored E) N ≡ up
 unfolding upper-end lower-exponential tail-bound
 upper-mirror E N =
     ap₃ (λ (s x : Scaled) (w : Powers Scaled). U (value (U (value s ⊕ whole 2 ⊗ value x)) ⊘ value (w .sum))) (sum-mirror true E N) (d-mirror E N) (powers-mirror false E 255)
+
+pub alert-mirror : (E : Encounter) (N : ℕ) → alert (mirrored E) N ≡ alert E N
+unfolding alert
+alert-mirror E N = ap (λ (x : Scaled). at-most (whole 1) (value x ⊗ whole 10000)) (lower-mirror E N)

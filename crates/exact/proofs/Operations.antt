@@ -54,7 +54,7 @@ product-packs up b x y bp n n' =
 pub product-none : (up : Bool) (b : ℕ) (x y : Scaled) → x .m * y .m ≡ 0 → round up b (value x ⊗ value y) ≡ nought
 product-none up b x y z = zero-round up b (value x ⊗ value y) (unfold value _⊗_ in omega (arith, ap (λ (n : ℕ). n * (2 ^ posPart (x .e) * 2 ^ posPart (y .e))) z))
 
--- the sum, x's exponent g above y's: y's mantissa is moved g bits down below x's, both followed by w zeros
+-- the sum, x's exponent g above y's: y's mantissa is with-exponent g bits down below x's, both followed by w zeros
 pub sum-packs : (up : Bool) (b w : ℕ) (x y : Scaled) (g : ℕ) → 0 < b → Normal b x → x .e ≡ y .e +ℤ pos g
     → Packed up b (value x ⊕ value y) (x .m * 2 ^ w + y .m * 2 ^ w / 2 ^ g) (x .e -ℤ pos w) (ltb 0 (y .m * 2 ^ w % 2 ^ g))
 sum-packs up b w x y g bp n e =
@@ -147,7 +147,7 @@ ratio-packs up b n d i bp dp l = quotient-packs up b (n over d) (n * 2 ^ i) d (p
 pub ratio-none : (up : Bool) (b n d : ℕ) → n ≡ 0 → round up b (n over d) ≡ nought
 ratio-none up b n d z = zero-round up b (n over d) (unfold _over_ in z)
 
--- a whole number below 2^b is exact: its bits moved up to b
+-- a whole number below 2^b is exact: its bits with-exponent up to b
 module _ (b n : ℕ) (np : 0 < n) (nl : n < 2 ^ b) where
   pub whole-normal : (t : ℕ) → size n + t ≡ b → Normal b (scaled (n * 2 ^ t) (pos 0 -ℤ pos t))
   whole-normal t e = record {

@@ -12,11 +12,11 @@ use lib.IntN.{ℤ, pos, _+ℤ_, _-ℤ_}
 use lib.Pow.{pow-pos, pow-add, pow-mono}
 use Rattle.exact.specs.declared.Scaled.{Scaled}
 use Rattle.exact.specs.Integer.{posPart, negPart}
-use Rattle.exact.specs.Fraction.{Frac, _≼_, _≺_, _≈_, _⊕_, _⊗_, _÷_, whole, at-most}
-use Rattle.exact.specs.Scaled.{scaled, nought, value, Normal, IsScaled, moved, half, double}
+use Rattle.exact.specs.Fraction.{Frac, _≼_, _≈_, _⊕_, _⊗_, _÷_, whole, at-most}
+use Rattle.exact.specs.Scaled.{scaled, nought, value, Normal, IsScaled, with-exponent, half, double}
 use Rattle.exact.proofs.Integers.{bal-add, bal-diff}
 use Rattle.exact.specs.Rounding.{round}
-use Rattle.exact.proofs.Fractions.{lt-or-le, ≈-refl, ≈-sym, add-cong, ≼-trans, ≼-≺, ≺-≼, ≼-of, ≽-of, ≺-or-≼}
+use Rattle.exact.proofs.Fractions.{_≺_, lt-or-le, ≈-refl, ≈-sym, add-cong, ≼-trans, ≼-≺, ≺-≼, ≼-of, ≽-of, ≺-or-≼}
 use Rattle.exact.proofs.Rounding.{round-is, round-cong}
 
 -- ---- the test and the order
@@ -95,21 +95,21 @@ not-at-most-zero b x y n z = lt-leb (value x .num * value y .den) (value y .num 
 
 -- ---- halving and doubling are exact
 
-pub moved-none : (x : Scaled) (e : ℤ) → x .m ≡ 0 → moved x e ≡ nought
-unfolding moved
-moved-none x e h = rw (eq-eqb (x .m) 0 h)
+pub exponent-none : (x : Scaled) (e : ℤ) → x .m ≡ 0 → with-exponent x e ≡ nought
+unfolding with-exponent
+exponent-none x e h = rw (eq-eqb (x .m) 0 h)
 
-pub moved-some : (x : Scaled) (e : ℤ) → (x .m ≡ 0 → ⊥) → moved x e ≡ scaled (x .m) e
-unfolding moved
-moved-some x e h = rw (ne-eqb (x .m) 0 h)
+pub exponent-some : (x : Scaled) (e : ℤ) → (x .m ≡ 0 → ⊥) → with-exponent x e ≡ scaled (x .m) e
+unfolding with-exponent
+exponent-some x e h = rw (ne-eqb (x .m) 0 h)
 
--- moved x e has the value v where m × 2^e has it, or where x is zero and v too
-by-mantissa : (x : Scaled) (e : ℤ) (v : Frac) → (x .m ≡ 0 → v .num ≡ 0) → value (scaled (x .m) e) ≈ v → value (moved x e) ≈ v
+-- with-exponent x e has the value v where m × 2^e has it, or where x is zero and v too
+by-mantissa : (x : Scaled) (e : ℤ) (v : Frac) → (x .m ≡ 0 → v .num ≡ 0) → value (scaled (x .m) e) ≈ v → value (with-exponent x e) ≈ v
 by-mantissa x e v z s = go (ℕ-discrete (x .m) 0)
   where
-    go : Dec (x .m ≡ 0) → value (moved x e) ≈ v
-    go (yes n) = rw (moved-none x e n) (unfold value in record { eq = rw (z n) (omega arith) })
-    go (no n) = rw (moved-some x e n) s
+    go : Dec (x .m ≡ 0) → value (with-exponent x e) ≈ v
+    go (yes n) = rw (exponent-none x e n) (unfold value in record { eq = rw (z n) (omega arith) })
+    go (no n) = rw (exponent-some x e n) s
 
 pub half-exact : (x : Scaled) → value (half x) ≈ value x ÷ 2
 half-exact x = by-mantissa x (x .e -ℤ pos 1) (value x ÷ 2) (λ n. unfold value _÷_ in rw n (omega arith)) (unfold value _÷_ in record { eq = is })

@@ -17,7 +17,7 @@ use mir.Val.{SFits}
 use Rattle.exact.specs.declared.Scaled.{Scaled}
 use Rattle.exact.specs.Integer.{posPart, negPart}
 use Rattle.exact.specs.Fraction.{Frac, _⊕_, _⊗_, _÷_, _⊘_, _over_}
-use Rattle.exact.specs.Scaled.{scaled, nought, value, Normal, IsScaled, InRange, moved, half, double}
+use Rattle.exact.specs.Scaled.{scaled, nought, value, Normal, IsScaled, InRange, with-exponent, half, double}
 use Rattle.exact.specs.Rounding.{finish, spare, inexact, pack, round}
 use Rattle.exact.proofs.Integers.{pos-add, neg-add, pos-diff, neg-diff, pos-sub, neg-sub, gap, gap-above}
 use Rattle.exact.proofs.Signed.{fits}
@@ -150,14 +150,14 @@ module _ (up : Bool) (b : ℕ) (bp : 0 < b) where
 
 -- ---- halves and doubles
 
-moved-range : {b A : ℕ} {x : Scaled} (e : ℤ) → IsScaled b x → posPart e ≤ A → negPart e ≤ A → InRange b A (moved x e)
-unfolding moved
-moved-range {b} {A} {x} e (inl z) p n = rw (eq-eqb (x .m) 0 (mantissa z)) (nought-range b A)
-moved-range {b} {A} {x} e (inr s) p n =
+exponent-range : {b A : ℕ} {x : Scaled} (e : ℤ) → IsScaled b x → posPart e ≤ A → negPart e ≤ A → InRange b A (with-exponent x e)
+unfolding with-exponent
+exponent-range {b} {A} {x} e (inl z) p n = rw (eq-eqb (x .m) 0 (mantissa z)) (nought-range b A)
+exponent-range {b} {A} {x} e (inr s) p n =
     rw (ne-eqb (x .m) 0 (λ z. omega (arith, s .low, pow-pos b))) (record { is-scaled = inr (record { low = s .low; high = s .high }); above = p; below = n })
 
 pub half-range : {b A : ℕ} {x : Scaled} → InRange b A x → InRange b (A + 1) (half x)
-half-range {x = x} h = moved-range (x .e -ℤ pos 1) (h .is-scaled) (omega (arith, h .above, pos-diff (x .e) (pos 1))) (omega (arith, h .below, neg-diff (x .e) (pos 1)))
+half-range {x = x} h = exponent-range (x .e -ℤ pos 1) (h .is-scaled) (omega (arith, h .above, pos-diff (x .e) (pos 1))) (omega (arith, h .below, neg-diff (x .e) (pos 1)))
 
 pub double-range : {b A : ℕ} {x : Scaled} → InRange b A x → InRange b (A + 1) (double x)
-double-range {x = x} h = moved-range (x .e +ℤ pos 1) (h .is-scaled) (omega (arith, h .above, pos-add (x .e) (pos 1))) (omega (arith, h .below, neg-add (x .e) (pos 1)))
+double-range {x = x} h = exponent-range (x .e +ℤ pos 1) (h .is-scaled) (omega (arith, h .above, pos-add (x .e) (pos 1))) (omega (arith, h .below, neg-add (x .e) (pos 1)))

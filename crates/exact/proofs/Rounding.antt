@@ -12,11 +12,11 @@ use lib.Ieee.{size}
 use lib.Ieee.Digits.{size-lt}
 use Rattle.exact.specs.declared.Scaled.{Scaled}
 use Rattle.exact.specs.Integer.{posPart, negPart}
-use Rattle.exact.specs.Fraction.{Frac, _≼_, _≺_, _≈_, _⊗_, _over_}
+use Rattle.exact.specs.Fraction.{Frac, _≼_, _≈_, _⊗_, _over_}
 use Rattle.exact.specs.Scaled.{nought, value, Normal, IsScaled}
 use Rattle.exact.specs.Rounding.{IsRound, finish, inexact, pack, round, lost, slack}
 use Rattle.exact.proofs.Integers.{balanced, parts}
-use Rattle.exact.proofs.Fractions.{≼-refl, ≼-trans, ≺-≼, ≼-of-≺, ≺-irrefl, ≼-of, ≽-of, ≈-refl, ≈-sym, ≈-trans, antisym, mul-mono, lt-or-le}
+use Rattle.exact.proofs.Fractions.{_≺_, ≼-refl, ≼-trans, ≺-≼, ≼-of-≺, ≺-irrefl, ≼-of, ≽-of, ≈-refl, ≈-sym, ≈-trans, antisym, mul-mono, lt-or-le}
 use Rattle.exact.proofs.Bits.{size-low}
 use Rattle.exact.proofs.Grid.{point, value-point, Near, near-quotient}
 use Rattle.exact.proofs.Packing.{next-is, Shape, pack-shape, shape-is}

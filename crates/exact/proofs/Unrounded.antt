@@ -3,7 +3,7 @@ use mathlib.Core.Path.{_≡_, refl}
 use Prim.Native.Nat.{ℕ, zero, suc}
 use Rattle.exact.specs.Fraction.{Frac, _≈_, _⊗_, _÷_, _↑_, whole, sum}
 use Rattle.exact.specs.Encounter.{Encounter, u, h, X, Y, t, a₀}
-use Rattle.exact.specs.Series.{factorial, c, power-term}
+use Rattle.exact.specs.Series.{factorial, c, exponential-term}
 use Rattle.exact.specs.Steps.{Letters, Terms, Powers, add, mul, div, letters, first, next-c, next-p, next-v, next-y, next, terms, next-power, powers}
 use Rattle.exact.proofs.Fractions.{≈-refl, ≈-sym, ≈-trans, cong, add-cong, mul-cong, div-cong, zero-add, mul-comm, div-mul}
 use Rattle.exact.proofs.ExactTerms.{p, v, y, p-zero, v-zero, y-zero, c-zero, p-suc, v-suc, y-suc, c-suc, factorial-step}
@@ -63,22 +63,22 @@ module _ (u h X Y a₀ t : Frac) where
   sum-is n = terms-are n .sum-is
 
 -- t^(k+1)/(k+1)! is t^k/k! × t/(k+1)
-pub power-step : (t : Frac) (k : ℕ) → power-term t (suc k) ≈ power-term t k ⊗ t ÷ suc k
-unfolding power-term _↑_
+pub power-step : (t : Frac) (k : ℕ) → exponential-term t (suc k) ≈ exponential-term t k ⊗ t ÷ suc k
+unfolding exponential-term _↑_
 power-step t k =
     ≈-trans (factorial-step (t ⊗ t ↑ k) k) (div-cong (suc k) (≈-trans (≈-sym (div-mul t (t ↑ k) (factorial k))) (mul-comm t (t ↑ k ÷ factorial k))))
 
 pub record Same-powers (t : Frac) (k : ℕ) (w : Powers Frac) : Type 0 where
-  pub r-is : w .r ≈ power-term t k
-  pub sum-is : w .sum ≈ sum (power-term t) (suc k)
+  pub r-is : w .r ≈ exponential-term t k
+  pub sum-is : w .sum ≈ sum (exponential-term t) (suc k)
 
-one-is : (t : Frac) → whole 1 ≈ power-term t 0
-unfolding power-term _↑_ factorial _÷_ whole
+one-is : (t : Frac) → whole 1 ≈ exponential-term t 0
+unfolding exponential-term _↑_ factorial _÷_ whole
 one-is t = record { eq = refl }
 
 pub powers-are : (t : Frac) (k : ℕ) → Same-powers t k (powers same same (whole 1) t k)
 unfolding powers next-power div mul add sum
 powers-are t zero = record { r-is = one-is t; sum-is = ≈-trans (one-is t) (≈-sym (zero-add _)) }
 powers-are t (suc k) =
-    let x : powers same same (whole 1) t k .r ⊗ t ÷ suc k ≈ power-term t (suc k) = grw (cong, powers-are t k .r-is) (≈-sym (power-step t k)) in
+    let x : powers same same (whole 1) t k .r ⊗ t ÷ suc k ≈ exponential-term t (suc k) = grw (cong, powers-are t k .r-is) (≈-sym (power-step t k)) in
     record { r-is = x; sum-is = add-cong (powers-are t k .sum-is) x }

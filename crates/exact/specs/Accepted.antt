@@ -14,12 +14,12 @@ unfoldable pub outside : ℕ → Bool
 outside n = eqb n 0 || ltb 10000000 n
 
 -- outside −10,000,000 to 10,000,000
-unfoldable pub far : ℤ → Bool
-far z = ltb 10000000 (natAbs z)
+unfoldable pub miss-outside : ℤ → Bool
+miss-outside z = ltb 10000000 (natAbs z)
 
 -- the tests 3 to 6, and what follows where none of them refuses
-unfoldable pub input-tests : Encounter → ℕ → ℕ
-input-tests E rest =
+unfoldable pub tests-3-to-6 : Encounter → ℕ → ℕ
+tests-3-to-6 E rest =
     -- 3: R is 0 or above 10,000,000
     cond (outside (E .R)) 3
     -- 4: sx or sy is 0 or above 10,000,000
@@ -27,13 +27,13 @@ input-tests E rest =
     -- 5: sy above sx
     (cond (ltb (E .sx) (E .sy)) 5
     -- 6: a miss outside −10,000,000 to 10,000,000
-    (cond (far (E .xm) || far (E .ym)) 6
+    (cond (miss-outside (E .xm) || miss-outside (E .ym)) 6
     rest)))
 
 -- the number of the first test that refuses a begin, or 0
 unfoldable pub begin-refusal : Encounter → ℕ
 begin-refusal E =
-    input-tests E
+    tests-3-to-6 E
     -- 7: upper t above 64
     (cond (at-most (value (side-letters true E .t)) (whole 64)) 0 7)
 

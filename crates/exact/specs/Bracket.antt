@@ -1,17 +1,12 @@
 -- Document 01, 'The rounded steps', to 32 significant bits: both sides of an encounter, the tail bound, the two ends at an order N, and the class.
 use mathlib.Core.Bool.{Bool, true, false}
-use Prim.Native.Nat.{ℕ, pred, _+_, _^_}
-use lib.IntN.{negsuc}
+use Prim.Native.Nat.{ℕ, pred, _+_}
 use Rattle.exact.specs.declared.Scaled.{Scaled}
 use Rattle.exact.specs.Fraction.{Frac, whole, _⊕_, _⊗_, _⊘_, at-most}
-use Rattle.exact.specs.Scaled.{scaled, value}
+use Rattle.exact.specs.Scaled.{one, value}
 use Rattle.exact.specs.Rounding.{D, U, round}
 use Rattle.exact.specs.Encounter.{Encounter}
 use Rattle.exact.specs.Steps.{Letters, Terms, Powers, letters, start, terms, powers, bound, tail-term}
-
--- 1, as a scaled number
-abbrev pub one : Scaled
-one = scaled (2 ^ 31) (negsuc 30)
 
 -- a side: up is false for the lower, true for the upper
 module _ (up : Bool) (E : Encounter) where
@@ -27,15 +22,16 @@ module _ (up : Bool) (E : Encounter) where
   unfoldable pub side-powers : ℕ → Powers Scaled
   side-powers k = powers value (round up 32) one (side-letters .t) k
 
-  -- the sum of c(0) to c(N−1)
+  -- the sum of c(0) to c(N−1), for N ≥ 1
   unfoldable pub sum-to : ℕ → Scaled
   sum-to N = side-terms (pred N) .sum
 
 module _ (E : Encounter) where
-  -- "Upper side only: M" and d(n)
+  -- M: "Upper side only: M = U(U(U(u + h/2) + X) + Y)"
   unfoldable pub M : Scaled
   M = bound value U (side-letters true E)
 
+  -- d(n)
   unfoldable pub d : ℕ → Scaled
   d n = tail-term value U (side-start true E) M n
 

@@ -1,4 +1,4 @@
--- Document 01, 'What the library covers' and 'The exact series', first line: an encounter's five inputs and its exact letters.
+-- Document 01, 'What the library covers' and 'The exact series': an encounter's five inputs, its exact letters and a(0).
 use Prim.Native.Nat.{ℕ, _-_, _*_}
 use lib.IntN.{ℤ, natAbs}
 use Rattle.exact.specs.Fraction.{Frac, _over_, _⊕_, _⊗_}
@@ -35,7 +35,7 @@ module _ (E : Encounter) where
   unfoldable pub zy : Frac
   zy = square (E .ym) over (2 * (E .sy * E .sy))
 
-  -- g = (sx² − sy²)/sx². The subtraction stops at 0; for every accepted encounter it does not get there: `g-is` (proofs/Letters.antt).
+  -- g = (sx² − sy²)/sx². A difference of naturals stops at 0; where sy ≤ sx, as for every accepted encounter, it is the integer sx² − sy² (`g-is`, proofs/Accepted.antt).
   unfoldable pub g : Frac
   g = (E .sx * E .sx - E .sy * E .sy) over (E .sx * E .sx)
 

@@ -1,4 +1,5 @@
--- Document 01, 'Scaled numbers': "a fraction is a whole numerator [..] over a whole denominator above 0; two fractions are compared by multiplying crosswise."
+-- Document 01, 'Scaled numbers': "In definitions and proofs a fraction is a whole numerator, signed where something is subtracted, over a whole denominator above
+-- 0; two fractions are compared by multiplying crosswise." Only g of the letters subtracts (Encounter.antt); all else here is of numbers that are 0 or more.
 -- Definitions only; their laws are in proofs/Fractions.antt.
 use mathlib.Core.Path.{_≡_}
 use mathlib.Core.Bool.{Bool}
@@ -6,7 +7,7 @@ use Prim.Native.Nat.{ℕ, zero, suc, pred, _+_, _*_, _≤_, _<_}
 use native.Mathlib.Nat.{mul-pos, zero-lt-suc}
 use lib.Dec.{leb}
 
-infix 40 _≼_ _≺_ _≈_
+infix 40 _≼_ _≈_
 infixl 60 _⊕_
 infixl 70 _⊗_
 infixl 70 _÷_
@@ -21,10 +22,6 @@ pub record Frac : Type 0 where
 -- p is at most q
 pub record _≼_ (p q : Frac) : Type 0 where
   pub le : p .num * q .den ≤ q .num * p .den
-
--- p is less than q
-pub record _≺_ (p q : Frac) : Type 0 where
-  pub lt : p .num * q .den < q .num * p .den
 
 -- p and q have one value
 pub record _≈_ (p q : Frac) : Type 0 where
@@ -54,7 +51,7 @@ _⊗_ p q = record { num = p .num * q .num; den = p .den * q .den; pos = mul-pos
 unfoldable pub _÷_ : Frac → ℕ → Frac
 _÷_ p k = record { num = p .num; den = p .den * suc (pred k); pos = mul-pos (p .pos) (zero-lt-suc (pred k)) }
 
--- p ⊘ q is p/q, for q above 0
+-- p ⊘ q is p/q, for q above 0 (for a q whose numerator is 0 it counts that as 1)
 unfoldable pub _⊘_ : Frac → Frac → Frac
 _⊘_ p q = record { num = p .num * q .den; den = p .den * suc (pred (q .num)); pos = mul-pos (p .pos) (zero-lt-suc (pred (q .num))) }
 

@@ -46,7 +46,7 @@ module _ {S : Type 0} (val : S → Frac) (D : Frac → S) where
     t = add (add (D (zx E)) (D (zy E))) (D (u E));
   }
 
-  -- the rounded c(0)
+  -- c(0), rounded
   unfoldable pub start : Encounter → S
   start E = D (a₀ E)
 
@@ -59,7 +59,7 @@ module _ {S : Type 0} (val : S → Frac) (D : Frac → S) where
     unfoldable pub next-c : ℕ → Terms S → S
     next-c n s = div (add (add (D (val (s .p) ⊕ val (mul (l .h) (s .v)) ÷ 2)) (mul (l .X) (s .y))) (mul (l .Y) (s .c))) (suc n * suc (suc n))
 
-    -- "p(n) = D(u × D(c(n) + D(p(n−1)/(n+1)))", at n + 1
+    -- "p(n) = D(u × D(c(n) + D(p(n−1)/(n+1))))", at n + 1
     unfoldable pub next-p : ℕ → S → Terms S → S
     next-p n c s = mul (l .u) (add c (div (s .p) (suc (suc n))))
 
@@ -82,14 +82,15 @@ module _ {S : Type 0} (val : S → Frac) (D : Frac → S) where
     terms c₀ zero = first c₀
     terms c₀ (suc n) = next n (terms c₀ n)
 
-    -- "M = U(U(U(u + h/2) + X) + Y)"
+    -- M, on the upper side, where D is the paper's U: "M = U(U(U(u + h/2) + X) + Y)"
     unfoldable pub bound : S
     bound = add (add (D (val (l .u) ⊕ val (l .h) ÷ 2)) (l .X)) (l .Y)
 
-  -- "d(0) = c(0), d(n) = U(U(d(n−1) × M)/(n+1))"
+  -- d(n), likewise: "d(n) = U(U(d(n−1) × M)/(n+1))", at n + 1
   unfoldable pub next-d : S → ℕ → S → S
   next-d M n d = div (mul d M) (suc (suc n))
 
+  -- "d(0) = c(0)"
   unfoldable pub tail-term : S → S → ℕ → S
   tail-term c₀ M zero = c₀
   tail-term c₀ M (suc n) = next-d M n (tail-term c₀ M n)

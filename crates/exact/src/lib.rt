@@ -4,17 +4,18 @@ ghost use mathlib.Core.Path.{_≡_};
 ghost use mathlib.Core.Bool.{false};
 ghost use Prim.Native.Nat.{_^_, _<_};
 ghost use lib.IntN.{pos, _-ℤ_};
-ghost use Rattle.exact.specs.Fraction.{whole as wholeNumber};
+ghost use Rattle.exact.specs.Fraction.{_≈_, whole as wholeNumber};
+ghost use Rattle.exact.specs.Scaled.{value};
 ghost use Rattle.exact.specs.Rounding.{round};
 
-// m × 2^e.
+// m × 2^e: "e is a signed 32-bit number."
 pub struct Scaled {
     pub m: u32,
     pub e: i32,
 }
 
 // -t, for a t that fits.
-fn minus(t: u32) -> i32
+fn negated(t: u32) -> i32
     requires { ⌜ t < 2 ^ 31 ⌝ }
     ensures { λ r. ⌜ r ≡ pos 0 -ℤ pos t ⌝ }
 {
@@ -29,15 +30,15 @@ impl Scaled {
         e: -31,
     };
 
-    // The whole number n, which fits whatever it is: D(n) and U(n) are both n.
+    // The whole number n, which fits whatever it is.
     pub fn whole(n: u32) -> Scaled
-        ensures { λ r. ⌜ r ≡ round false 32 (wholeNumber n) ⌝ }
+        ensures { λ r. ⌜ (r ≡ round false 32 (wholeNumber n)) × (value r ≈ wholeNumber n) ⌝ }
     {
         if n == 0 {
             return Scaled::ZERO;
         }
         let z = u32::leading_zeros(n);
         let m = n << z;
-        Scaled { m, e: minus(z) }
+        Scaled { m, e: negated(z) }
     }
 }

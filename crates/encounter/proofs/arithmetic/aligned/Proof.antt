@@ -32,26 +32,26 @@ add-h c =
     let z = c .before .before .before .before in
     record { fits = omega (arith, c .shifted .ensures, div-le-self (z .args .b .m * 2147483648) (2 ^ z .args .g), z .pre .1 .high, z .pre .2 .high) }
 
-lower-requires : tie.Need-lower-requires
-lower-requires c κs = let z = c .before .before .before .before in rw (toZ-ofZ (in-fits (z .pre .0))) (omega (arith, z .pre .0 .below))
+lowered-requires : tie.Need-lowered-requires
+lowered-requires c κs = let z = c .before .before .before .before in rw (toZ-ofZ (in-fits (z .pre .0))) (omega (arith, z .pre .0 .below))
 
 remains-requires : tie.Need-remains-requires
 remains-requires c κs = search needs
 
-near-requires : tie.Need-near-requires
-near-requires c κs =
+pack-wide-requires : tie.Need-pack-wide-requires
+pack-wide-requires c κs =
     let z = c .before .before .before .before .before .before in (
       omega (arith, z .pre .1 .low),
-      rw (back (c .before .lower .result) (c .before .lower .ok), c .before .lower .ensures, toZ-ofZ (in-fits (z .pre .0))) (omega (arith, z .pre .0 .above, pos-diff (z .args .a .e) (pos 31))),
+      rw (back (c .before .lowered .result) (c .before .lowered .ok), c .before .lowered .ensures, toZ-ofZ (in-fits (z .pre .0))) (omega (arith, z .pre .0 .above, pos-diff (z .args .a .e) (pos 31))),
     )
 
 returns : tie.Need-returns
 returns c =
     let z = c .before .before .before .before .before .before .before .before in
-    let l = c .before .before .before .lower in
-    rw (c .before .near .ensures .0, c .before .before .remains .ensures, c .before .before .before .before .shifted .ensures, back (l .result) (l .ok), l .ensures, toZ-ofZ (in-fits (z .pre .0)))
+    let l = c .before .before .before .lowered in
+    rw (c .before .pack-wide .ensures .0, c .before .before .remains .ensures, c .before .before .before .before .shifted .ensures, back (l .result) (l .ok), l .ensures, toZ-ofZ (in-fits (z .pre .0)))
     (sum-packs (z .args .up) 32 31 (z .args .a) (z .args .b) (z .args .g) (lit< tt) (z .pre .1) (z .pre .3) .is)
 
 pub aligned-spec : {M : Type 1} → statement M
 aligned-spec =
-    tie.close (tie.spec cast-y mul-y cast-h mul-h shifted-requires add-h lower-requires remains-requires near-requires returns)
+    tie.close (tie.spec cast-y mul-y cast-h mul-h shifted-requires add-h lowered-requires remains-requires pack-wide-requires returns)

@@ -2,21 +2,21 @@ use mathlib.Core.Path.{sym}
 use native.Mathlib.Omega.{arith}
 use mir.Facts.{toZ-ofZ}
 use Rattle.exact.proofs.Signed.{back}
-use Rattle.exact.proofs.Order.{moved-none, moved-some}
+use Rattle.exact.proofs.Order.{exponent-none, exponent-some}
 use Rattle.exact.proofs.Ranges.{in-fits}
 use Rattle.encounter.proofs.arithmetic.halved.Statement.{statement}
 use Rattle.encounter.proofs.arithmetic.halved.Tie as tie
 
 returns : tie.Need-returns
-returns c = sym (moved-none (c .before .before .args .a) _ (c .if1 .taken))
+returns c = sym (exponent-none (c .before .before .args .a) _ (c .if1 .taken))
 
-lower-requires : tie.Need-lower-requires
-lower-requires c κs = let z = c .before .before in rw (toZ-ofZ (in-fits (z .pre))) (omega (arith, z .pre .below))
+lowered-requires : tie.Need-lowered-requires
+lowered-requires c κs = let z = c .before .before in rw (toZ-ofZ (in-fits (z .pre))) (omega (arith, z .pre .below))
 
 returns-2 : tie.Need-returns-2
 returns-2 c =
     let z = c .before .before .before in
-    rw (back (c .lower .result) (c .lower .ok), c .lower .ensures, toZ-ofZ (in-fits (z .pre))) (sym (moved-some (z .args .a) _ (c .before .if1 .left)))
+    rw (back (c .lowered .result) (c .lowered .ok), c .lowered .ensures, toZ-ofZ (in-fits (z .pre))) (sym (exponent-some (z .args .a) _ (c .before .if1 .left)))
 
 pub halved-spec : {M : Type 1} → statement M
-halved-spec = tie.close (tie.spec returns lower-requires returns-2)
+halved-spec = tie.close (tie.spec returns lowered-requires returns-2)

@@ -72,21 +72,21 @@ loop-again c =
       omega (arith, few c),
     )
 
-lower-requires : tie.Need-lower-requires Inv-loop μ-loop
-lower-requires c κs = omega arith
+lowered-requires : tie.Need-lowered-requires Inv-loop μ-loop
+lowered-requires c κs = omega arith
 
-narrow-requires : tie.Need-narrow-requires Inv-loop μ-loop
-narrow-requires c κs = (
+pack-any-requires : tie.Need-pack-any-requires Inv-loop μ-loop
+pack-any-requires c κs = (
   omega arith,
-  rw (back (c .lower .result) (c .lower .ok), c .lower .ensures) (omega (arith, pos-diff (pos 0) (pos (c .before .before .loop .i)))),
+  rw (back (c .lowered .result) (c .lowered .ok), c .lowered .ensures) (omega (arith, pos-diff (pos 0) (pos (c .before .before .loop .i)))),
 )
 
 returns-2 : tie.Need-returns-2 Inv-loop μ-loop
 returns-2 c =
     let z = c .before .before .before .before .before .before in
-    let l = c .before .before .lower in
+    let l = c .before .before .lowered in
     let k = c .before .before .before .before .loop in
-    rw (c .before .narrow .ensures .0, back (l .result) (l .ok), l .ensures, k .inv .0, k .inv .1)
+    rw (c .before .pack-any .ensures .0, back (l .result) (l .ok), l .ensures, k .inv .0, k .inv .1)
     (ratio-packs (z .args .up) 32 (z .args .n) (z .args .d) (k .i) (lit< tt) (z .pre .2) (omega (arith, k .inv .0, c .before .before .before .loop-test .left)) .is)
 
 pub ratio-spec : {M : Type 1} → statement M
@@ -107,6 +107,6 @@ ratio-spec =
     add-i
     loop-less
     loop-again
-    lower-requires
-    narrow-requires
+    lowered-requires
+    pack-any-requires
     returns-2)

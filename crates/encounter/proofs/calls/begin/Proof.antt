@@ -10,7 +10,7 @@ use Rattle.exact.specs.Scaled.{value}
 use Rattle.exact.specs.Rounding.{round}
 use Rattle.exact.specs.Encounter.{Encounter, encounter-of}
 use Rattle.exact.specs.Bracket.{side-letters}
-use Rattle.exact.specs.Accepted.{input-tests}
+use Rattle.exact.specs.Accepted.{tests-3-to-6}
 use Rattle.exact.proofs.Fractions.{≈-refl}
 use Rattle.exact.proofs.Operations.{whole-exact}
 use Rattle.exact.proofs.Order.{at-most-cong}
@@ -28,7 +28,7 @@ use Rattle.encounter.proofs.calls.begin.Tie as tie
 test-7 : (E : Encounter) (l : Letters) (w : Scaled) (r : Bool) → l ≡ held-letters (side-letters true E) → w ≡ round false 32 (whole 64) → r ≡ at-most (value (l .t)) (value w) → r ≡ at-most (value (side-letters true E .t)) (whole 64)
 test-7 E l w r e f g = g ∙ rw (e, f) (at-most-cong _ _ _ _ (≈-refl _) (whole-exact false 32 64 (lit< tt) (lit< tt)))
 
-passes : (E : Encounter) {r : ℕ} → r ≡ input-tests E 0 → r ≤ 0 → input-tests E 0 ≡ 0
+passes : (E : Encounter) {r : ℕ} → r ≡ tests-3-to-6 E 0 → r ≤ 0 → tests-3-to-6 E 0 ≡ 0
 passes E e l = sym e ∙ omega arith
 
 test-inputs-requires : tie.Need-test-inputs-requires
@@ -50,18 +50,18 @@ letters-requires c κs = let z = c .before .before in passed-bounds _ (z .args .
 whole-requires : tie.Need-whole-requires
 whole-requires c κs = search needs
 
-compare-requires : tie.Need-compare-requires
-compare-requires c κs =
+at-most-requires : tie.Need-at-most-requires
+at-most-requires c κs =
     let z = c .before .before .before .before in
     let f = passed-bounds _ (z .args .s) (passes _ (c .before .before .before .test-inputs .ensures) (c .before .before .if1 .left)) in
-    (widen (lit≤ tt) (letters-fine true _ f (c .before .letters .ensures) .t), widen (lit≤ tt) (whole-of false 64 (c .whole .ensures) (lit< tt)))
+    (widen (lit≤ tt) (letters-fine true _ f (c .before .letters .ensures) .t), widen (lit≤ tt) (whole-of false 64 (c .whole .ensures .0) (lit< tt)))
 
 opened-requires : tie.Need-opened-requires
 opened-requires c κs =
     let z = c .before .before .before .before .before .before in
     let l = c .before .before .before .letters in
     let p = passes _ (c .before .before .before .before .before .test-inputs .ensures) (c .before .before .before .before .if1 .left) in
-    let t = test-7 _ (l .result) (c .before .before .whole .result) (c .before .compare .result) (l .ensures) (c .before .before .whole .ensures) (c .before .compare .ensures) in
+    let t = test-7 _ (l .result) (c .before .before .whole .result) (c .before .at-most .result) (l .ensures) (c .before .before .whole .ensures .0) (c .before .at-most .ensures) in
     (accepted _ (z .args .s) p (sym t ∙ c .if2 .taken), l .ensures)
 
 count-to-requires : tie.Need-count-to-requires
@@ -79,7 +79,7 @@ returns-2 c =
     let y = toZ-ofZ (z .fits .ym) in
     let l = c .before .before .before .before .before .letters in
     let p = passes E (rw (x, y) at (c .before .before .before .before .before .before .before .test-inputs .ensures)) (c .before .before .before .before .before .before .if1 .left) in
-    let t = test-7 E (l .result) (c .before .before .before .before .whole .result) (c .before .before .before .compare .result) (rw (x, y) at (l .ensures)) (c .before .before .before .before .whole .ensures) (c .before .before .before .compare .ensures) in
+    let t = test-7 E (l .result) (c .before .before .before .before .whole .result) (c .before .before .before .at-most .result) (rw (x, y) at (l .ensures)) (c .before .before .before .before .whole .ensures .0) (c .before .before .before .at-most .ensures) in
     let e = begin-taken E (a .s) p (sym t ∙ c .before .before .if2 .taken) (c .count-to .ensures) (rw (x, y) at (c .before .opened .ensures)) in
     (e, begin-reached E (z .pre) e)
 
@@ -92,7 +92,7 @@ returns-3 c =
     let y = toZ-ofZ (z .fits .ym) in
     let l = c .before .before .before .before .letters in
     let p = passes E (rw (x, y) at (c .before .before .before .before .before .before .test-inputs .ensures)) (c .before .before .before .before .before .if1 .left) in
-    let t = test-7 E (l .result) (c .before .before .before .whole .result) (c .before .before .compare .result) (rw (x, y) at (l .ensures)) (c .before .before .before .whole .ensures) (c .before .before .compare .ensures) in
+    let t = test-7 E (l .result) (c .before .before .before .whole .result) (c .before .before .at-most .result) (rw (x, y) at (l .ensures)) (c .before .before .before .whole .ensures .0) (c .before .before .at-most .ensures) in
     (begin-7 E (a .s) p (sym t ∙ c .before .if2 .left) (c .refuse2 .ensures), z .pre)
 
 pub begin-spec : {M : Type 1} → statement M
@@ -104,7 +104,7 @@ begin-spec =
     returns
     letters-requires
     whole-requires
-    compare-requires
+    at-most-requires
     opened-requires
     count-to-requires
     refuse-requires-2

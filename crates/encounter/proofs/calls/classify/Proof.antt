@@ -33,14 +33,14 @@ scale x = rw (mul-one (x .den), mul-one (x .num * 10000))
 test-is : {x : Scaled} {r : Bool} → IsScaled 32 x → r ≡ at-most (value threshold) (value x) → r ≡ at-most (whole 1) (value x ⊗ whole 10000)
 test-is {x} n e = e ∙ rw (← threshold-is) (at-least-up 32 (1 over 10000) (lit< tt) n) ∙ scale (value x)
 
-compare-requires : tie.Need-compare-requires
-compare-requires c κs = (threshold-in, c .pre)
+at-most-requires : tie.Need-at-most-requires
+at-most-requires c κs = (threshold-in, c .pre)
 
 returns : tie.Need-returns
-returns c = rw (← test-is (c .before .before .pre .is-scaled) (c .before .compare .ensures), c .if1 .taken)
+returns c = rw (← test-is (c .before .before .pre .is-scaled) (c .before .at-most .ensures), c .if1 .taken)
 
 returns-2 : tie.Need-returns-2
-returns-2 c = rw (← test-is (c .before .before .pre .is-scaled) (c .before .compare .ensures), c .if1 .left)
+returns-2 c = rw (← test-is (c .before .before .pre .is-scaled) (c .before .at-most .ensures), c .if1 .left)
 
 pub classify-spec : {M : Type 1} → statement M
-classify-spec = tie.close (tie.spec compare-requires returns returns-2)
+classify-spec = tie.close (tie.spec at-most-requires returns returns-2)

@@ -18,16 +18,16 @@ add-whole c = search needs
 whole-requires : tie.Need-whole-requires
 whole-requires c κs = search needs
 
-compare-requires : tie.Need-compare-requires
-compare-requires c κs =
+at-most-requires : tie.Need-at-most-requires
+at-most-requires c κs =
     let z = c .before .before .before .before in
-    (widen (lit≤ tt) (double-of (c .before .before .doubled .ensures) (M-fine (z .args .s) (z .pre))), widen (lit≤ tt) (whole-of false _ (c .whole .ensures) (omega (arith, z .pre .high))))
+    (widen (lit≤ tt) (double-of (c .before .before .doubled .ensures) (M-fine (z .args .s) (z .pre))), widen (lit≤ tt) (whole-of false _ (c .whole .ensures .0) (omega (arith, z .pre .high))))
 
 returns : tie.Need-returns
 returns c =
     let z = c .before .before .before .before .before in
-    may-read-is (z .args .s) (z .pre) (c .before .before .before .doubled .ensures) (c .before .whole .ensures) (c .compare .ensures)
+    may-read-is (z .args .s) (z .pre) (c .before .before .before .doubled .ensures) (c .before .whole .ensures .0) (c .at-most .ensures)
 
 pub may-read-spec : {M : Type 1} → statement M
 may-read-spec =
-    tie.close (tie.spec doubled-requires add-whole whole-requires compare-requires returns)
+    tie.close (tie.spec doubled-requires add-whole whole-requires at-most-requires returns)

@@ -4,10 +4,9 @@ use Prim.Native.Nat.{ℕ, _+_, _-_, _^_, _≤_}
 use native.Mathlib.Numerals.{add-one}
 use native.Mathlib.Omega.{arith}
 use Rattle.exact.specs.declared.Scaled.{Scaled}
-use Rattle.exact.specs.Scaled.{value, InRange}
+use Rattle.exact.specs.Scaled.{one, value, InRange}
 use Rattle.exact.specs.Rounding.{round}
 use Rattle.exact.specs.Steps.{next-power, powers}
-use Rattle.exact.specs.Bracket.{one}
 use Rattle.exact.specs.Ranges.{Powers-in}
 use Rattle.exact.proofs.Ranges.{widen}
 use Rattle.exact.proofs.Exponents.{powers-in}

@@ -8,7 +8,7 @@ use lib.Dec.{lit<}
 use lib.Ieee.{size}
 use Rattle.exact.proofs.Signed.{back}
 use Rattle.exact.proofs.Bits.{leading-size, size-pos}
-use Rattle.exact.proofs.Operations.{whole-none, whole-round, whole-normal}
+use Rattle.exact.proofs.Operations.{whole-none, whole-round, whole-normal, whole-exact}
 use Rattle.exact.proofs.Scaled.whole.Statement.{statement}
 use Rattle.exact.proofs.Scaled.whole.Tie as tie
 
@@ -23,13 +23,13 @@ module _ (n : ℕ) (some : n ≡ 0 → ⊥) (fits : n < 2 ^ 32) where
   few = omega (arith, bits, size-pos n np)
 
 returns : tie.Need-returns
-returns c = rw (c .if1 .taken) (sym (whole-none false 32))
+returns c = rw (c .if1 .taken) (sym (whole-none false 32), rw (← whole-none false 32) (whole-exact false 32 0 (lit< tt) (lit< tt)))
 
 shl-m : tie.Need-shl-m
 shl-m c = few (c .before .args .n) (c .if1 .left) (c .before .fits .n .fits)
 
-minus-requires : tie.Need-minus-requires
-minus-requires c κs = omega (arith, few (c .before .args .n) (c .if1 .left) (c .before .fits .n .fits))
+negated-requires : tie.Need-negated-requires
+negated-requires c κs = omega (arith, few (c .before .args .n) (c .if1 .left) (c .before .fits .n .fits))
 
 returns-2 : tie.Need-returns-2
 returns-2 c =
@@ -37,8 +37,9 @@ returns-2 c =
     let some = c .before .if1 .left in
     let fits = c .before .before .fits .n .fits in
     let e = bits n some fits in
-    rw (back (c .minus .result) (c .minus .ok), c .minus .ensures, mod-eq-of-lt (whole-normal 32 n (np n some fits) fits (leadingZeros 32 n) e .high))
-    (sym (whole-round false 32 n (leadingZeros 32 n) (lit< tt) (np n some fits) fits e))
+    let w = whole-round false 32 n (leadingZeros 32 n) (lit< tt) (np n some fits) fits e in
+    rw (back (c .negated .result) (c .negated .ok), c .negated .ensures, mod-eq-of-lt (whole-normal 32 n (np n some fits) fits (leadingZeros 32 n) e .high))
+    (sym w, rw (← w) (whole-exact false 32 n (lit< tt) fits))
 
 pub whole-spec : {M : Type 1} → statement M
-whole-spec = tie.close (tie.spec returns shl-m minus-requires returns-2)
+whole-spec = tie.close (tie.spec returns shl-m negated-requires returns-2)

@@ -5,8 +5,8 @@ use mir.Facts.{toZ-ofZ}
 use Rattle.exact.proofs.Bits.{size-is}
 use Rattle.exact.proofs.Packing.{pack-is, inexact-is}
 use borrow.Author.Needs.{needs}
-use Rattle.encounter.proofs.rounding.near.Statement.{statement}
-use Rattle.encounter.proofs.rounding.near.Tie as tie
+use Rattle.encounter.proofs.rounding.pack_wide.Statement.{statement}
+use Rattle.encounter.proofs.rounding.pack_wide.Tie as tie
 
 cast-trim : tie.Need-cast-trim
 cast-trim c = search needs
@@ -36,6 +36,6 @@ returns-2 c =
       c .trim2 .ensures .1 ∙ sym (inexact-is (a .up) 32 (a .h) 32 (a .e) (a .s) (omega arith) bits),
     )
 
-pub near-spec : {M : Type 1} → statement M
-near-spec =
+pub pack-wide-spec : {M : Type 1} → statement M
+pack-wide-spec =
     tie.close (tie.spec cast-trim trim-requires cast-trim-2 trim-requires-2 returns returns-2)

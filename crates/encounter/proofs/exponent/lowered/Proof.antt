@@ -3,8 +3,8 @@ use lib.IntN.{pos}
 use mir.Facts.{toZ-ofZ}
 use Rattle.exact.proofs.Signed.{diff-fits, pos-fits, small}
 use borrow.Author.Needs.{needs}
-use Rattle.encounter.proofs.exponent.lower.Statement.{statement}
-use Rattle.encounter.proofs.exponent.lower.Tie as tie
+use Rattle.encounter.proofs.exponent.lowered.Statement.{statement}
+use Rattle.encounter.proofs.exponent.lowered.Tie as tie
 
 cast-result : tie.Need-cast-result
 cast-result c = search needs
@@ -19,5 +19,5 @@ returns c =
     let s = diff-fits (c .args .e) (pos (c .args .t)) (omega (arith, pos-fits (c .fits .e))) (omega arith) in
     rw (toZ-ofZ (c .fits .e), small (c .args .t) (omega arith), toZ-ofZ s)
 
-pub lower-spec : {M : Type 1} → statement M
-lower-spec = tie.close (tie.spec cast-result sub-result returns)
+pub lowered-spec : {M : Type 1} → statement M
+lowered-spec = tie.close (tie.spec cast-result sub-result returns)

@@ -8,8 +8,8 @@ use mir.Facts.{toZ-ofZ}
 use Rattle.exact.proofs.Bits.{leading-size, size-ge}
 use Rattle.exact.proofs.Packing.{pack-is, inexact-is, top-lt}
 use borrow.Author.Needs.{needs}
-use Rattle.encounter.proofs.rounding.narrow.Statement.{statement}
-use Rattle.encounter.proofs.rounding.narrow.Tie as tie
+use Rattle.encounter.proofs.rounding.pack_any.Statement.{statement}
+use Rattle.encounter.proofs.rounding.pack_any.Tie as tie
 
 module _ (h : ℕ) (low : 2 ^ 31 ≤ h) (fits : h < 2 ^ 64) where
   few : leadingZeros 64 h ≤ 32
@@ -60,7 +60,7 @@ returns c =
       rw (c .trim .ensures .1, rest (a .h) low fits t) (sym (inexact-is (a .up) 32 (a .h) t (a .e) (a .s) (omega arith) e)),
     )
 
-pub narrow-spec : {M : Type 1} → statement M
-narrow-spec =
+pub pack-any-spec : {M : Type 1} → statement M
+pack-any-spec =
     tie.close
     (tie.spec sub-t cast-top shr-top cast-trim cast-trim-2 shl-trim sub-trim trim-requires returns)

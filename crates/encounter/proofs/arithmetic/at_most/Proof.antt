@@ -8,8 +8,8 @@ use Rattle.exact.proofs.Signed.{diff-fits}
 use Rattle.exact.proofs.Operations.{normal}
 use Rattle.exact.proofs.Order.{zero-at-most, not-at-most-zero, smaller-exponent, larger-exponent, equal-exponents}
 use Rattle.exact.proofs.Ranges.{in-fits}
-use Rattle.encounter.proofs.arithmetic.compare.Statement.{statement}
-use Rattle.encounter.proofs.arithmetic.compare.Tie as tie
+use Rattle.encounter.proofs.arithmetic.at_most.Statement.{statement}
+use Rattle.encounter.proofs.arithmetic.at_most.Tie as tie
 
 returns : tie.Need-returns
 returns c = let a = c .before .before .args in sym (zero-at-most (a .a) (a .b) (c .if1 .taken))
@@ -56,5 +56,5 @@ returns-5 c =
     sym (equal-exponents (z .args .a) (z .args .b)
     (gap (z .args .a .e) (z .args .b .e) (omega (arith, g, c .before .before .before .before .if3 .left)) ∙ ap (λ (n : ℕ). z .args .b .e +ℤ pos n) (omega (arith, g2, c .before .before .if4 .left))))
 
-pub compare-spec : {M : Type 1} → statement M
-compare-spec = tie.close (tie.spec returns returns-2 gap-requires returns-3 gap-requires-2 returns-4 returns-5)
+pub at-most-spec : {M : Type 1} → statement M
+at-most-spec = tie.close (tie.spec returns returns-2 gap-requires returns-3 gap-requires-2 returns-4 returns-5)

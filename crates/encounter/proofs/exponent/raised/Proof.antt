@@ -3,8 +3,8 @@ use lib.IntN.{pos}
 use mir.Facts.{toZ-ofZ}
 use Rattle.exact.proofs.Signed.{sum-fits, neg-fits, small}
 use borrow.Author.Needs.{needs}
-use Rattle.encounter.proofs.exponent.raise.Statement.{statement}
-use Rattle.encounter.proofs.exponent.raise.Tie as tie
+use Rattle.encounter.proofs.exponent.raised.Statement.{statement}
+use Rattle.encounter.proofs.exponent.raised.Tie as tie
 
 cast-result : tie.Need-cast-result
 cast-result c = search needs
@@ -19,5 +19,5 @@ returns c =
     let s = sum-fits (c .args .e) (pos (c .args .t)) (omega arith) (omega (arith, neg-fits (c .fits .e))) in
     rw (toZ-ofZ (c .fits .e), small (c .args .t) (omega arith), toZ-ofZ s)
 
-pub raise-spec : {M : Type 1} → statement M
-raise-spec = tie.close (tie.spec cast-result add-result returns)
+pub raised-spec : {M : Type 1} → statement M
+raised-spec = tie.close (tie.spec cast-result add-result returns)
