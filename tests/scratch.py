@@ -116,6 +116,8 @@ COMPILED = [
 ]
 # The interpreter stops at 10,000,000 steps.
 STOPPED = "the run did not finish within "
+# A compiled program is stopped where it writes more bytes than this.
+MOST_WRITTEN = 1 << 20
 
 
 def run(folder, records, lines, long=False):

@@ -5,5 +5,6 @@ pub mod Opening
 pub mod Progressing
 pub mod Reading
 pub mod Answering
+pub mod Requests
 pub mod Stars
 pub mod Invariant

@@ -10,6 +10,7 @@ use Rattle.exact.specs.Bracket.{readable}
 use Rattle.exact.specs.Accepted.{begin-refusal}
 use Rattle.encounter.specs.declared.state.Session.{Session}
 use Rattle.encounter.specs.declared.state.Called.{Called}
+use Rattle.encounter.specs.declared.state.Taken.{Taken}
 use Rattle.encounter.specs.Session.{empty, state, encounter, counted, bracket, refusing}
 
 -- ---- begin, add and read
@@ -91,6 +92,20 @@ respond (begin E) s = begin-call E s
 respond (add count) s = add-call count s
 respond read s = read-call s
 respond (bad r) s = refusing r s
+
+-- the bytes of a record; a script ends at a record that is refused as 1 or 2
+abbrev pub width : Request → ℕ
+width (begin E) = 21
+width (add count) = 3
+width read = 1
+width (bad r) = 0
+
+abbrev pub taken : Request → ℕ → Session → Taken
+taken q i s = record { answer = respond q s .answer; session = respond q s .session; next = i + width q }
+
+-- the call of the record at a position of a script
+unfoldable pub record-call : List ℕ → ℕ → Session → Taken
+record-call l i s = taken (request-at l i) i s
 
 -- "That the lent session came from these calls is the one premise a call may have"
 pub data Reached : Session → Type 0 where

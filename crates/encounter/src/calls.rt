@@ -10,9 +10,11 @@ ghost use Rattle.exact.specs.Steps.{first};
 ghost use Rattle.exact.specs.Ranges.{Letters-in};
 ghost use Rattle.exact.specs.Bracket.{side-letters, lower-end, upper-end, readable};
 ghost use Rattle.exact.specs.Accepted.{outside as is-outside, miss-outside as is-far, tests-3-to-6, Accepted};
-ghost use Rattle.encounter.specs.Session.{empty as none, state, encounter, Begun, held-letters, held-terms, refused, counted, class-of, step-letters};
+ghost use Rattle.encounter.specs.Session.{empty as none, state, encounter, Begun, held-letters, held-terms, class-of, step-letters};
 ghost use Rattle.encounter.specs.Calls.{begin-call, add-call, read-call, Reached};
 ghost use Rattle.encounter.specs.Enclosure.{Enclosed};
+use crate::answers::count_to;
+use crate::answers::refuse;
 use crate::arithmetic::at_most;
 use crate::arithmetic::doubled;
 use crate::arithmetic::quotient;
@@ -70,31 +72,6 @@ impl Session {
             M: zero,
             d: zero,
         }
-    }
-}
-
-fn refuse(r: u32) -> Answer
-    ensures { λ a. ⌜ a ≡ refused r ⌝ }
-{
-    Answer {
-        refusal: r,
-        N: 0,
-        lower: Scaled::ZERO,
-        upper: Scaled::ZERO,
-        class: Class::Clear,
-    }
-}
-
-// What an accepted begin or add answers.
-fn count_to(n: u32) -> Answer
-    ensures { λ a. ⌜ a ≡ counted n ⌝ }
-{
-    Answer {
-        refusal: 0,
-        N: n,
-        lower: Scaled::ZERO,
-        upper: Scaled::ZERO,
-        class: Class::Clear,
     }
 }
 

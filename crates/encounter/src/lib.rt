@@ -1,10 +1,13 @@
 // The library: one encounter at a time, answered by a bracket of its collision probability. The arithmetic is private.
+mod answers;
 mod arithmetic;
+mod bytes;
 pub mod calls;
 mod exponent;
 mod letters;
 mod powers;
 mod progress;
+pub mod records;
 mod rounding;
 pub mod state;
 mod terms;

@@ -60,3 +60,10 @@ pub struct Called {
     pub answer: Answer,
     pub session: Session,
 }
+
+// What a record's call answers, the session after it, and the position of the next record.
+pub struct Taken {
+    pub answer: Answer,
+    pub session: Session,
+    pub next: usize,
+}

@@ -1,0 +1,36 @@
+use mir.Syntax.{w32}
+use mir.ValLaws.{toZ-pos, toZ-ofZ}
+use Rattle.encounter.proofs.Requests.{below, below-fits, signed-low, signed-high}
+use borrow.Author.Needs.{needs}
+use Rattle.encounter.proofs.bytes.complement.Statement.{statement}
+use Rattle.encounter.proofs.bytes.complement.Tie as tie
+use Rattle.encounter.proofs.bytes.complement.Reads as reads
+use Rattle.encounter.proofs.bytes.complement.Lts as lts
+
+-- src/bytes.rt:33:9
+cast-result : tie.Need-cast-result
+cast-result c = search needs
+
+-- src/bytes.rt:35:15
+sub-result : tie.Need-sub-result
+sub-result c = search needs
+
+-- src/bytes.rt:35:14
+cast-result-2 : tie.Need-cast-result-2
+cast-result-2 c = search needs
+
+-- src/bytes.rt:35:9
+sub-result-2 : tie.Need-sub-result-2
+sub-result-2 c = rw (below _ (c .if1 .left)) (below-fits _ (c .if1 .left))
+
+-- src/bytes.rt:29:1
+returns : tie.Need-returns
+returns c = rw (toZ-pos w32 _ (c .if1 .taken)) (signed-low _ (c .if1 .taken))
+
+-- src/bytes.rt:29:1
+returns-2 : tie.Need-returns-2
+returns-2 c = rw (below _ (c .if1 .left), toZ-ofZ w32 _ (below-fits _ (c .if1 .left))) (signed-high _ (c .if1 .left))
+
+pub complement-spec : {M : Type 1} → statement M
+complement-spec =
+    tie.close (tie.spec cast-result sub-result cast-result-2 sub-result-2 returns returns-2)

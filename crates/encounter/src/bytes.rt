@@ -1,0 +1,44 @@
+// Little-endian numbers of a script.
+ghost use mathlib.Core.Path.{_≡_};
+ghost use Prim.Native.Nat.{_+_, _≤_, _<_};
+ghost use lib.ListN.{length, getD};
+ghost use Rattle.encounter.specs.Calls.{u16-at, u32-at, signed};
+
+pub fn byte_at(script: &[u8], at: usize) -> u32
+    requires { ⌜ at < length (now script) ⌝ }
+    ensures { λ r. ⌜ (r ≡ getD (now (script .entry)) at 0) × (r < 256) ⌝ }
+{
+    script[at] as u32
+}
+
+pub fn half_at(script: &[u8], at: usize) -> u32
+    requires { ⌜ at + 2 ≤ length (now script) ⌝ }
+    ensures { λ r. ⌜ (r ≡ u16-at (now (script .entry)) at) × (r < 65536) ⌝ }
+{
+    byte_at(script, at) + 256 * byte_at(script, at + 1)
+}
+
+pub fn word_at(script: &[u8], at: usize) -> u32
+    requires { ⌜ at + 4 ≤ length (now script) ⌝ }
+    ensures { λ r. ⌜ r ≡ u32-at (now (script .entry)) at ⌝ }
+{
+    half_at(script, at) + 65536 * half_at(script, at + 2)
+}
+
+// The two's complement reading of 32 bits.
+pub fn complement(x: u32) -> i32
+    ensures { λ r. ⌜ r ≡ signed x ⌝ }
+{
+    if x < 2147483648 {
+        x as i32
+    } else {
+        -1 - (4294967295 - x) as i32
+    }
+}
+
+pub fn signed_at(script: &[u8], at: usize) -> i32
+    requires { ⌜ at + 4 ≤ length (now script) ⌝ }
+    ensures { λ r. ⌜ r ≡ signed (u32-at (now (script .entry)) at) ⌝ }
+{
+    complement(word_at(script, at))
+}
