@@ -4,9 +4,9 @@ use mathlib.Core.Bool.{Bool, true, false, cond}
 use mathlib.Core.List.{List, [], _∷_}
 use Prim.Native.Nat.{ℕ, suc, _+_, _≤_}
 use mathlib.Core.Logic.{⊎-elim}
-use native.Mathlib.Nat.{eq-zero-or-pos}
+use native.Mathlib.Nat.{eq-zero-or-pos, add-zero}
 use native.Mathlib.Omega.{arith}
-use borrow.Author.Tests.{ltb-false, eqb-true}
+use borrow.Author.Tests.{ltb-false, le-ltb, eqb-true, ne-eqb}
 use lib.Dec.{ltb, eqb}
 use Rattle.exact.specs.Encounter.{Encounter}
 use Rattle.exact.specs.Bracket.{readable}
@@ -15,7 +15,7 @@ use Rattle.exact.proofs.Enclosure.{enclosed}
 use Rattle.exact.proofs.Closeness.{ends-close}
 use Rattle.encounter.specs.declared.state.Session.{Session}
 use Rattle.encounter.specs.declared.state.Called.{Called}
-use Rattle.encounter.specs.Session.{empty, state, encounter, Begun, bracket, refusing}
+use Rattle.encounter.specs.Session.{empty, state, encounter, Begun, counted, bracket, refusing}
 use Rattle.encounter.specs.Calls.{begin-call, add-call, read-call, Request, begin, add, read, bad, Call, asked, respond, Reached, from-empty, after}
 use Rattle.encounter.specs.Enclosure.{History, none, of, follow, places, About, Claim, Every, Enclosed}
 
@@ -117,3 +117,9 @@ begun s r z = begun-whole (whole r .1) z
 
 pub order-high : (s : Session) → Reached s → s .N ≤ 4096
 order-high s r = ⊎-elim (λ z. omega (arith, z)) (λ p. begun s r (λ z. omega arith) .high) (eq-zero-or-pos (s .N))
+
+-- "Count 0 is accepted and does nothing."
+pub add-nothing : (s : Session) → Reached s → (s .N ≡ 0 → ⊥) → add-call 0 s ≡ record { answer = counted (s .N); session = s }
+unfolding add-call
+add-nothing s r z =
+    rw (ne-eqb (s .N) 0 z, add-zero, le-ltb 4096 (s .N) (order-high s r), sym (begun s r z .is))

@@ -1,6 +1,6 @@
 -- Document 01, 'Encounters on each edge': the cases marked ★, one table. proofs/Stars.antt proves `All stars`, one statement.
 use mathlib.Core.Path.{_≡_}
-use mathlib.Core.Bool.{Bool, true, false}
+use mathlib.Core.Bool.{true, false}
 use mathlib.Core.List.{List, [], _∷_}
 use Prim.Native.Nat.{ℕ, _+_, _^_}
 use lib.IntN.{pos, negsuc}
@@ -10,21 +10,23 @@ use Rattle.exact.specs.Scaled.{scaled, nought, value}
 use Rattle.exact.specs.Rounding.{D, U}
 use Rattle.exact.specs.Encounter.{Encounter, encounter-of, u, h, X, Y, t, a₀}
 use Rattle.exact.specs.Series.{c}
-use Rattle.exact.specs.Bracket.{side-letters, side-start, side-terms, M, tail-bound, lower-end, upper-end, alert, readable}
-use Rattle.exact.specs.Accepted.{begin-refusal}
+use Rattle.exact.specs.Bracket.{side-letters, side-start, side-terms, M, tail-bound}
+use Rattle.encounter.specs.declared.state.Answer.{Answer}
+use Rattle.encounter.specs.Session.{empty, state}
+use Rattle.encounter.specs.Calls.{begin-call, read-call}
 
 -- a case: what is computed, and what the paper says that it is
 pub data Star : Type 0 where
   scaled-is : Scaled → Scaled → Star
   fraction-is : Frac → Frac → Star
   number-is : ℕ → ℕ → Star
-  test-is : Bool → Bool → Star
+  answer-is : Answer → Answer → Star
 
 abbrev pub Holds : Star → Type 0
 Holds (scaled-is x y) = x ≡ y
 Holds (fraction-is p q) = p ≈ q
 Holds (number-is m n) = m ≡ n
-Holds (test-is a b) = a ≡ b
+Holds (answer-is a b) = a ≡ b
 
 abbrev pub All : List Star → Type 0
 All [] = Unit {0}
@@ -84,27 +86,23 @@ stars =
     ∷ scaled-is (side-terms true E₁ 1 .c) an-eighth
     ∷ scaled-is (M E₁) a-half
     -- ★ Same, N = 1: tail bound 1/4; a read is accepted, as 1 ≤ 3.
-    ∷ number-is (begin-refusal E₁) 0
+    ∷ number-is (begin-call E₁ empty .answer .refusal) 0
     ∷ fraction-is (tail-bound E₁ 1) (1 over 4)
     ∷ fraction-is (whole 2 ⊗ value (M E₁)) (whole 1)
-    ∷ test-is (readable E₁ 1) true
+    ∷ number-is (read-call (state E₁ 1) .answer .refusal) 0
     -- ★ (8, 1, 1, 8, 0): t = 64, accepted; M = 1,056.
     ∷ fraction-is (t E₂) (whole 64)
     ∷ fraction-is (value (side-letters false E₂ .t)) (whole 64)
     ∷ fraction-is (value (side-letters true E₂ .t)) (whole 64)
-    ∷ number-is (begin-refusal E₂) 0
+    ∷ number-is (begin-call E₂ empty .answer .refusal) 0
     ∷ fraction-is (value (M E₂)) (whole 1056)
     -- ★ Same: N = 2,109 gives 23, N = 2,110 is read.
-    ∷ test-is (readable E₂ 2109) false
-    ∷ test-is (readable E₂ 2110) true
+    ∷ number-is (read-call (state E₂ 2109) .answer .refusal) 23
+    ∷ number-is (read-call (state E₂ 2110) .answer .refusal) 0
     -- ★ (8, 1, 1, 8, 1): 7.
-    ∷ number-is (begin-refusal E₃) 7
+    ∷ number-is (begin-call E₃ empty .answer .refusal) 7
     -- ★ xm = −8 in place of 8: the same answers.
-    ∷ number-is (begin-refusal E₄) (begin-refusal E₂)
-    ∷ scaled-is (M E₄) (M E₂)
-    ∷ test-is (readable E₄ 2109) (readable E₂ 2109)
-    ∷ test-is (readable E₄ 2110) (readable E₂ 2110)
-    ∷ scaled-is (lower-end E₄ 2110) (lower-end E₂ 2110)
-    ∷ scaled-is (upper-end E₄ 2110) (upper-end E₂ 2110)
-    ∷ test-is (alert E₄ 2110) (alert E₂ 2110)
+    ∷ answer-is (begin-call E₄ empty .answer) (begin-call E₂ empty .answer)
+    ∷ answer-is (read-call (state E₄ 2109) .answer) (read-call (state E₂ 2109) .answer)
+    ∷ answer-is (read-call (state E₄ 2110) .answer) (read-call (state E₂ 2110) .answer)
     ∷ []

@@ -1,7 +1,7 @@
--- A miss counts by its square: an encounter on the other side of an axis has the same letters, and so the same ends at every order.
+-- A miss counts by its square: an encounter on the other side of an axis has the same letters, and so the same answers at every order.
 use mathlib.Core.Path.{_≡_, refl, ap}
 use mathlib.Core.Bool.{Bool, true, false}
-use Prim.Native.Nat.{ℕ, zero, suc, pred}
+use Prim.Native.Nat.{ℕ, zero, suc, pred, _+_}
 use lib.IntN.{ℤ, pos, negsuc, negℤ}
 use Rattle.exact.specs.declared.Scaled.{Scaled}
 use Rattle.exact.specs.Scaled.{one, value}
@@ -9,7 +9,8 @@ use Rattle.exact.specs.Fraction.{whole, _⊕_, _⊗_, _⊘_, at-most}
 use Rattle.exact.specs.Rounding.{D, U, round}
 use Rattle.exact.specs.Encounter.{Encounter, square, u, b, zx, zy, g, a₀}
 use Rattle.exact.specs.Steps.{Letters, Powers, letters, start, terms, powers, bound, tail-term}
-use Rattle.exact.specs.Bracket.{side-letters, side-start, side-terms, side-powers, sum-to, M, d, tail-bound, upper-exponential, lower-exponential, lower-end, upper-end, alert}
+use Rattle.exact.specs.Bracket.{side-letters, side-start, side-terms, side-powers, sum-to, M, d, tail-bound, upper-exponential, lower-exponential, lower-end, upper-end, alert, readable}
+use Rattle.exact.specs.Accepted.{miss-outside, tests-3-to-6, begin-refusal}
 
 abbrev pub mirrored : Encounter → Encounter
 mirrored E = record { R = E .R; sx = E .sx; sy = E .sy; xm = negℤ (E .xm); ym = E .ym }
@@ -52,3 +53,17 @@ upper-mirror E N =
 pub alert-mirror : (E : Encounter) (N : ℕ) → alert (mirrored E) N ≡ alert E N
 unfolding alert
 alert-mirror E N = ap (λ (x : Scaled). at-most (whole 1) (value x ⊗ whole 10000)) (lower-mirror E N)
+
+pub readable-mirror : (E : Encounter) (N : ℕ) → readable (mirrored E) N ≡ readable E N
+unfolding readable M
+readable-mirror E N = ap (λ (l : Letters Scaled). at-most (whole 2 ⊗ value (bound value (round true 32) l)) (whole (N + 2))) (letters-mirror true E)
+
+miss-mirror : (z : ℤ) → miss-outside (negℤ z) ≡ miss-outside z
+unfolding miss-outside
+miss-mirror (pos zero) = refl
+miss-mirror (pos (suc n)) = refl
+miss-mirror (negsuc n) = refl
+
+pub refusal-mirror : (E : Encounter) → begin-refusal (mirrored E) ≡ begin-refusal E
+unfolding begin-refusal tests-3-to-6
+refusal-mirror E = rw (miss-mirror (E .xm), letters-mirror true E)
