@@ -163,6 +163,23 @@ def readings(session):
     return answers
 
 
+def enclosures(encounter, answers):
+    """Whether the exact quotients are between the ends of each accepted read, at its order and at later cuts.
+
+    Gives a pair for each read and each two cuts: whether it holds, and which it is.
+    """
+    cuts = {BY_DEFINITION}
+    for answer in answers:
+        cuts |= {answer.N, answer.N + 1, answer.N + 60}
+    sums = exact_series.series_at(encounter, cuts)
+    exponentials = [exact_series.exponential(encounter, K) for K in K_CUTS]
+    for answer in answers:
+        for N in sorted(N for N in cuts if N >= answer.N):
+            for K, exponential in zip(K_CUTS, exponentials):
+                ok = exact_series.between(answer.lower, sums[N], exponential, answer.upper)
+                yield ok, f"read at {answer.N}, series cut at {N}, exponential at {K}"
+
+
 def tabulate(name, encounter):
     """Checks one case; the table's row."""
     row = f"{name:9}" + "".join(f"{x:>10}" for x in encounter)
@@ -178,17 +195,11 @@ def tabulate(name, encounter):
         return f"{row}   refused 23 at 4096"
 
     definition = sum(exact_series.by_definition(encounter, BY_DEFINITION))
-    cuts = {BY_DEFINITION}
-    for answer, _ in answers:
-        cuts |= {answer.N, answer.N + 1, answer.N + 60}
-    sums = exact_series.series_at(encounter, cuts)
-    check(Fraction(*sums[BY_DEFINITION]) == definition, "edges", f"{name}: the exact series")
-    exponentials = [exact_series.exponential(encounter, K) for K in K_CUTS]
+    exact = Fraction(*exact_series.series(encounter, BY_DEFINITION))
+    check(exact == definition, "edges", f"{name}: the exact series")
+    for ok, what in enclosures(encounter, [answer for answer, _ in answers]):
+        check(ok, "enclosures", f"{name}: {what}")
     for answer, close in answers:
-        for N in (N for N in cuts if N >= answer.N):
-            for K, exponential in zip(K_CUTS, exponentials):
-                ok = exact_series.between(answer.lower, sums[N], exponential, answer.upper)
-                check(ok, "enclosures", f"{name}: read at {answer.N}, series cut at {N}, exponential at {K}")
         if close:
             check(within_closeness(answer), "closeness", f"{name}: closeness at {answer.N}")
     shown = []

@@ -345,7 +345,7 @@ def run(folder, cases, answers):
         return None
     first = min(way.at // LINE for way in ways)
     if first >= len(cases):
-        sys.exit("operations: more was written than one line a case")
+        sys.exit("operations: every line agrees, and yet: %s" % ways)
     case, answer = cases[first], answers[first]
     direction = [" D", " U"][case.up] if KINDS[case.kind].directed else ""
     lines = ["%s%s %s %s: expected %s" % (case.kind, direction, shown(case.x), shown(case.y), shown(answer))]

@@ -188,8 +188,7 @@ def add(count):
 
 
 def record(call):
-    body = struct.pack("<IIIii", *call.inputs) if call.kind == "begin" else struct.pack("<I", *call.inputs or (0,))
-    return bytes([NUMBERS[call.kind]]) + body.ljust(20, b"\0")
+    return bytes([NUMBERS[call.kind]]) + struct.pack("<IIIii", *(*call.inputs, 0, 0, 0, 0, 0)[:5])
 
 
 class Made(NamedTuple):
@@ -217,7 +216,8 @@ WIDE = (11, LARGEST, 1, LARGEST, -1)
 THIN = (1, LARGEST, LARGEST, 0, 0)
 
 WHOLES = [0, 1, LARGEST, LARGEST + 1, (1 << 32) - 1]
-MISSES = [-(1 << 31), -LARGEST - 1, -LARGEST, -LARGEST + 1, -1, 0, 1, LARGEST - 1, LARGEST, LARGEST + 1, (1 << 31) - 1]
+MISSES = [-(1 << 31), -LARGEST - 1, -LARGEST, -LARGEST + 1, -1, 0, 1]
+MISSES += [LARGEST - 1, LARGEST, LARGEST + 1, (1 << 31) - 1]
 MOST = (1 << 16) - 1
 # A begin for each of the refusals 3 to 7.
 REFUSED = [(0, 9, 5, -4, 3), (7, 0, 5, -4, 3), (7, 5, 9, -4, 3), (7, 9, 5, -4, LARGEST + 1), (8, 1, 1, 8, 1)]
@@ -299,7 +299,7 @@ def at_limits(rng):
     for sx in 1, 2, 3, 1000, LARGEST - 1, LARGEST:
         yield earlier + [begin(sx, sx, sy, 0, 0) for sy in (sx + 1, sx, sx - 1)] + [READ]
     # With sigmas of 10,000,000 test 6 alone refuses; with sigmas of 100, test 7 what 6 does not.
-    tried = [pair for miss in MISSES for pair in ((miss, 0), (0, miss), (miss, miss), (miss, -1))]
+    tried = [pair for miss in MISSES for pair in ((miss, 0), (0, miss), (miss, miss))]
     yield earlier + [begin(LARGEST, LARGEST, LARGEST, xm, ym) for xm, ym in tried] + [READ]
     yield earlier + [begin(100, 100, 99, xm, ym) for xm, ym in tried] + [READ]
 
@@ -328,18 +328,19 @@ def near_64(rng):
 def at_test_7(rng):
     """t at 64, and just below and above it: exact, or only by the rounding."""
     exact = [(8 * k, k, k, 8 * k, 0) for k in (1, 2, 1000, LARGEST // 8)]
-    exact += [(8, 1, 1, -8, 0), (8, 1, 1, 0, 8), (8, 1, 1, 8, 1), (8, 1, 1, -8, -1), (8, 2, 1, 16, 0), (8, 2, 1, 0, -8)]
-    exact += [(8, 2, 1, 17, 0), (8, 2, 1, 15, 0), (9, 1, 1, 6, 3), (9, 1, 1, -6, 4)]
+    exact += [(8, 1, 1, xm, ym) for xm, ym in ((-8, 0), (0, 8), (8, 1), (-8, -1))]
+    exact += [(8, 2, 1, xm, ym) for xm, ym in ((16, 0), (0, -8), (17, 0), (15, 0))]
+    exact += [(9, 1, 1, 6, 3), (9, 1, 1, -6, 4)]
     # With sigmas of 3, u is no scaled number unless 3 divides R.
     for n in 1151, 1152, 1153:
         exact += [(R, 3, 3, xm, -ym) for R, xm, ym in list(sums_of_squares(n))[:8]]
     some = [inputs for _ in range(12) for inputs in near_64(rng)]
     for _ in range(12):
         sx, sy = sigmas(rng)
-        xm, ym = rng.randint(0, min(LARGEST, 7 * sx)), rng.randint(0, min(LARGEST, 7 * sy))
-        left = 2 * LARGEST_T * sy * sy - xm * xm * sy * sy // (sx * sx) - ym * ym
-        R = math.isqrt(max(left, 1))
-        some += [(R + i, sx, sy, xm, ym) for i in (1, 0)]
+        sy = min(sy, LARGEST // 12)
+        xm, ym = rng.randint(0, min(LARGEST, 7 * sx)), rng.randint(0, 7 * sy)
+        R = math.isqrt(2 * LARGEST_T * sy * sy - xm * xm * sy * sy // (sx * sx) - ym * ym)
+        some += [(R + 1, sx, sy, xm, ym), (R, sx, sy, xm, ym)]
     tried = exact + some
     for i in range(0, len(tried), 10):
         calls = [call for inputs in tried[i : i + 10] for call in (begin(*inputs), add(1))]
@@ -348,7 +349,7 @@ def at_test_7(rng):
 
 def at_zeros(rng):
     """X, Y and h zero or not, each with misses of both signs."""
-    for R, sx, sy, x, y in (10, 20, 7, 5, 4), (500, 5000, 100, 1000, 50), (3 * 10**6, LARGEST, 10**6 + 1, 10**7, 10**6):
+    for R, sx, sy, x, y in (10, 20, 7, 5, 4), (3 * 10**6, LARGEST, 10**6 + 1, LARGEST, 10**6):
         for xm, ym, equal in itertools.product([0, x, -x], [0, y, -y], [True, False]):
             yield [begin(R, sx, sx if equal else sy, xm, ym), READ, add(1), add(0), add(3), READ]
 
@@ -371,7 +372,7 @@ def at_test_23(rng):
     """One below the least order that is read, at it, and one above."""
     for inputs in WHOLE_M:
         assert begun(inputs).M == UP.ratio(least(inputs) + 2, 2)
-    for inputs in WHOLE_M + with_least(rng, 2, 60, 30):
+    for inputs in WHOLE_M + with_least(rng, 2, 60, 20):
         n = least(inputs)
         below = [add(n - 2), READ, add(0), add(1)] if n > 1 else []
         yield [begin(*inputs), *below, READ, add(1), READ]
@@ -404,7 +405,7 @@ def of_documents(rng):
 
 
 def random_encounters(rng):
-    for _ in range(60):
+    for _ in range(40):
         yield [begin(*accepted(rng)), add(rng.randint(0, 3)), READ, add(rng.randint(0, 10)), READ]
 
 
@@ -424,7 +425,7 @@ def random_call(rng, most):
 
 
 def random_calls(rng):
-    for _ in range(15):
+    for _ in range(12):
         yield [random_call(rng, 12) for _ in range(30)]
 
 
@@ -503,32 +504,42 @@ def runs(sequences, most, size):
     yield run
 
 
-def shown(field, text):
-    value = int(text, 16)
-    return str(scratch.signed(value) if FIELDS[field][1] else value)
+def field_of(text, field):
+    """A line's field, as a number."""
+    value = int(text[WIDTH * field :][:WIDTH], 16)
+    return scratch.signed(value) if FIELDS[field][1] else value
+
+
+def before(run, first):
+    """The session before a call, how many calls made it, and the last of them."""
+    start = max(i for i in range(first + 1) if run[i].call == EMPTY)
+    if start == first:
+        return "in place of the session before"
+    names = [name for name, _ in FIELDS]
+    *inputs, N = [field_of(run[first - 1].line, names.index(name)) for name in ("R", "sx", "sy", "xm", "ym", "N")]
+    calls = [str(one.call) for one in run[start + 1 : first]]
+    return "at N = %d of %s, after %d calls, the last %s" % (N, tuple(inputs), len(calls), ", ".join(calls[-4:]))
 
 
 def report(run, ways):
-    """A text on the first call that differs, and its first field that does."""
+    """A text on the first call that differs, and the first field there."""
     at = min(way.at for way in ways)
-    if at >= LINE * len(run):
-        return "more was written than one line a call: %s" % (ways,)
     first, field = at // LINE, at % LINE // WIDTH
+    if first >= len(run) or field >= len(FIELDS):
+        return "at byte %d: %s" % (at, ways)
     due = run[first].line
-    start = max(i for i in range(first + 1) if run[i].call == EMPTY)
-    before = [str(one.call) for one in run[start:first]]
-    lines = ["%s, after %s" % (run[first].call, ", ".join(["..."] * (len(before) > 8) + before[-8:]) or "nothing")]
-    if field < len(FIELDS):
-        begins = field * WIDTH
-        lines.append("  %s: expected %s" % (FIELDS[field][0], shown(field, due[begins : begins + WIDTH])))
+    lines = [
+        "%s, %s" % (run[first].call, before(run, first)),
+        "  %s: expected %d" % (FIELDS[field][0], field_of(due, field)),
+    ]
     for way in ways:
-        if way.at // LINE != first:
-            continue
-        text = (due[: way.at % LINE] + way.found)[field * WIDTH :][:WIDTH]
-        if way.found == "" or way.at % LINE // WIDTH != field or field == len(FIELDS):
-            lines.append("  %s: differs at byte %d of the line; %s" % (way.name, way.at % LINE, way.said))
+        if (way.at // LINE, way.at % LINE // WIDTH) != (first, field):
+            what = "differs later"
+        elif way.found == "":
+            what = "nothing, " + way.said
         else:
-            lines.append("  %s: %s" % (way.name, shown(field, text)))
+            what = str(field_of(due[: way.at % LINE] + way.found, field))
+        lines.append("  %s: %s" % (way.name, what))
     return "\n".join(lines)
 
 

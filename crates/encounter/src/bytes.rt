@@ -15,7 +15,9 @@ pub fn half_at(script: &[u8], at: usize) -> u32
     requires { ⌜ at + 2 ≤ length (now script) ⌝ }
     ensures { λ r. ⌜ (r ≡ u16-at (now (script .entry)) at) × (r < 65536) ⌝ }
 {
-    byte_at(script, at) + 256 * byte_at(script, at + 1)
+    let low = byte_at(script, at);
+    let high = byte_at(script, at + 1);
+    low + 256 * high
 }
 
 pub fn word_at(script: &[u8], at: usize) -> u32

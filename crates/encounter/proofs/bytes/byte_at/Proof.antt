@@ -3,18 +3,13 @@ use mathlib.Core.Path.{refl}
 use borrow.Author.Needs.{needs}
 use Rattle.encounter.proofs.bytes.byte_at.Statement.{statement}
 use Rattle.encounter.proofs.bytes.byte_at.Tie as tie
-use Rattle.encounter.proofs.bytes.byte_at.Reads as reads
-use Rattle.encounter.proofs.bytes.byte_at.Lts as lts
 
--- src/bytes.rt:11:5
 shared-slice-read-result : tie.Need-shared-slice-read-result
 shared-slice-read-result c = search needs
 
--- src/bytes.rt:11:5
 cast-result : tie.Need-cast-result
 cast-result c = omega (arith, c .shared-slice-known .given (c .before .args .at))
 
--- src/bytes.rt:7:1
 returns : tie.Need-returns
 returns c = (refl, omega (arith, c .shared-slice-known .given (c .before .args .at)))
 

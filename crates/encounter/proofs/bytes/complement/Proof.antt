@@ -4,30 +4,22 @@ use Rattle.encounter.proofs.Requests.{below, below-fits, signed-low, si
 use borrow.Author.Needs.{needs}
 use Rattle.encounter.proofs.bytes.complement.Statement.{statement}
 use Rattle.encounter.proofs.bytes.complement.Tie as tie
-use Rattle.encounter.proofs.bytes.complement.Reads as reads
-use Rattle.encounter.proofs.bytes.complement.Lts as lts
 
--- src/bytes.rt:33:9
 cast-result : tie.Need-cast-result
 cast-result c = search needs
 
--- src/bytes.rt:35:15
 sub-result : tie.Need-sub-result
 sub-result c = search needs
 
--- src/bytes.rt:35:14
 cast-result-2 : tie.Need-cast-result-2
 cast-result-2 c = search needs
 
--- src/bytes.rt:35:9
 sub-result-2 : tie.Need-sub-result-2
 sub-result-2 c = rw (below _ (c .if1 .left)) (below-fits _ (c .if1 .left))
 
--- src/bytes.rt:29:1
 returns : tie.Need-returns
 returns c = rw (toZ-pos w32 _ (c .if1 .taken)) (signed-low _ (c .if1 .taken))
 
--- src/bytes.rt:29:1
 returns-2 : tie.Need-returns-2
 returns-2 c = rw (below _ (c .if1 .left), toZ-ofZ w32 _ (below-fits _ (c .if1 .left))) (signed-high _ (c .if1 .left))
 

@@ -6,61 +6,43 @@ use Rattle.encounter.proofs.Requests.{begin-taken}
 use borrow.Author.Needs.{needs}
 use Rattle.encounter.proofs.records.take_begin.Statement.{statement}
 use Rattle.encounter.proofs.records.take_begin.Tie as tie
-use Rattle.encounter.proofs.records.take_begin.Reads as reads
-use Rattle.encounter.proofs.records.take_begin.Lts as lts
-use Rattle.encounter.proofs.bytes.signed_at.Reads as signed-at-reads
-use Rattle.encounter.proofs.bytes.word_at.Reads as word-at-reads
-use Rattle.encounter.proofs.calls.begin.Reads as begin-reads
 
--- src/records.rt:31:16
 add-body : tie.Need-add-body
 add-body c = search needs
 
--- src/records.rt:34:9
 word-at-requires : tie.Need-word-at-requires
 word-at-requires c κs = search needs
 
--- src/records.rt:35:25
 add-word-at : tie.Need-add-word-at
 add-word-at c = search needs
 
--- src/records.rt:35:9
 word-at-requires-2 : tie.Need-word-at-requires-2
 word-at-requires-2 c κs = search needs
 
--- src/records.rt:36:25
 add-word-at-2 : tie.Need-add-word-at-2
 add-word-at-2 c = search needs
 
--- src/records.rt:36:9
 word-at-requires-3 : tie.Need-word-at-requires-3
 word-at-requires-3 c κs = search needs
 
--- src/records.rt:37:27
 add-signed-at : tie.Need-add-signed-at
 add-signed-at c = search needs
 
--- src/records.rt:37:9
 signed-at-requires : tie.Need-signed-at-requires
 signed-at-requires c κs = search needs
 
--- src/records.rt:38:27
 add-signed-at-2 : tie.Need-add-signed-at-2
 add-signed-at-2 c = search needs
 
--- src/records.rt:38:9
 signed-at-requires-2 : tie.Need-signed-at-requires-2
 signed-at-requires-2 c κs = search needs
 
--- src/records.rt:32:9
 begin-requires : tie.Need-begin-requires
 begin-requires c κs = search needs
 
--- src/records.rt:45:15
 add-t10 : tie.Need-add-t10
 add-t10 c = search needs
 
--- src/records.rt:27:1
 returns : tie.Need-returns
 returns c =
     let k = c .before .before .begin .ensures in

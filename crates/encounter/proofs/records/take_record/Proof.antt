@@ -4,90 +4,67 @@ use Rattle.encounter.proofs.Requests.{no-byte, begin-short, begin-whole
 use borrow.Author.Needs.{needs}
 use Rattle.encounter.proofs.records.take_record.Statement.{statement}
 use Rattle.encounter.proofs.records.take_record.Tie as tie
-use Rattle.encounter.proofs.records.take_record.Reads as reads
-use Rattle.encounter.proofs.records.take_record.Lts as lts
-use Rattle.encounter.proofs.calls.read.Reads as read-reads
-use Rattle.encounter.proofs.records.stop.Reads as stop-reads
-use Rattle.encounter.proofs.records.take_add.Reads as take-add-reads
-use Rattle.encounter.proofs.records.take_begin.Reads as take-begin-reads
 
--- src/records.rt:69:9
 stop-requires : tie.Need-stop-requires
 stop-requires c κs = search needs
 
--- src/records.rt:69:9
 returns : tie.Need-returns
 returns c =
     let z = c .before .before .before in
     answered _ (z .args .at) (z .args .s) (bad 1) _ (z .pre) (no-byte _ _ (c .before .if1 .taken)) (c .stop .ensures ∙ stopped 1 (z .args .at) (z .args .s))
 
--- src/records.rt:71:16
 shared-slice-read-kind : tie.Need-shared-slice-read-kind
 shared-slice-read-kind c = search needs
 
--- src/records.rt:72:16
 sub-left : tie.Need-sub-left
 sub-left c = search needs
 
--- src/records.rt:75:13
 stop-requires-2 : tie.Need-stop-requires-2
 stop-requires-2 c κs = search needs
 
--- src/records.rt:75:13
 returns-2 : tie.Need-returns-2
 returns-2 c =
     let z = c .before .before .before .before .before .before in
     answered _ (z .args .at) (z .args .s) (bad 2) _ (z .pre) (begin-short _ _ (c .before .before .before .before .if1 .left) (c .before .before .if2 .taken) (c .before .if3 .taken)) (c .stop2 .ensures ∙ stopped 2 (z .args .at) (z .args .s))
 
--- src/records.rt:77:9
 take-begin-requires : tie.Need-take-begin-requires
 take-begin-requires c κs = search needs
 
--- src/records.rt:77:9
 returns-3 : tie.Need-returns-3
 returns-3 c =
     let z = c .before .before .before .before .before .before in
     answered _ (z .args .at) (z .args .s) (begin _) _ (z .pre) (begin-whole _ _ (c .before .before .before .before .if1 .left) (c .before .before .if2 .taken) (c .before .if3 .left)) (c .take-begin .ensures .0)
 
--- src/records.rt:81:13
 stop-requires-3 : tie.Need-stop-requires-3
 stop-requires-3 c κs = search needs
 
--- src/records.rt:81:13
 returns-4 : tie.Need-returns-4
 returns-4 c =
     let z = c .before .before .before .before .before .before .before in
     answered _ (z .args .at) (z .args .s) (bad 2) _ (z .pre) (add-short _ _ (c .before .before .before .before .before .if1 .left) (c .before .before .before .if2 .left) (c .before .before .if4 .taken) (c .before .if5 .taken)) (c .stop3 .ensures ∙ stopped 2 (z .args .at) (z .args .s))
 
--- src/records.rt:83:9
 take-add-requires : tie.Need-take-add-requires
 take-add-requires c κs = search needs
 
--- src/records.rt:83:9
 returns-5 : tie.Need-returns-5
 returns-5 c =
     let z = c .before .before .before .before .before .before .before in
     answered _ (z .args .at) (z .args .s) (add _) _ (z .pre) (add-whole _ _ (c .before .before .before .before .before .if1 .left) (c .before .before .before .if2 .left) (c .before .before .if4 .taken) (c .before .if5 .left)) (c .take-add .ensures .0)
 
--- src/records.rt:87:21
 read-requires : tie.Need-read-requires
 read-requires c κs = search needs
 
--- src/records.rt:89:19
 add-t13 : tie.Need-add-t13
 add-t13 c = search needs
 
--- src/records.rt:86:9
 returns-6 : tie.Need-returns-6
 returns-6 c =
     let z = c .before .before .before .before .before .before .before in
     answered _ (z .args .at) (z .args .s) (read) _ (z .pre) (a-read _ _ (c .before .before .before .before .before .if1 .left) (c .before .before .before .if2 .left) (c .before .before .if4 .left) (c .before .if6 .taken)) (read-taken (z .args .at) (z .args .s) (c .read .ensures .0))
 
--- src/records.rt:92:5
 stop-requires-4 : tie.Need-stop-requires-4
 stop-requires-4 c κs = search needs
 
--- src/records.rt:64:1
 returns-7 : tie.Need-returns-7
 returns-7 c =
     let z = c .before .before .before .before .before .before .before in

@@ -1,0 +1,5 @@
+pub mod Decimals
+pub mod Putting
+pub mod Signs
+pub mod Outcomes
+pub mod Lines

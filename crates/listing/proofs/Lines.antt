@@ -1,0 +1,170 @@
+-- The listing by records.
+use mathlib.Core.Path.{_≡_, refl, sym, _∙_, ap, subst}
+use mathlib.Core.Bool.{Bool, true, false, cond}
+use mathlib.Core.List.{List, [], _++_, append-assoc}
+use Prim.Native.Nat.{ℕ, zero, suc, _+_, _-_, _≤_, _<_}
+use native.Mathlib.Omega.{arith}
+use borrow.Author.Tests.{lt-ltb, le-ltb, eq-eqb, ne-eqb}
+use lib.Dec.{ltb, eqb, T}
+use lib.ListN.{length, take, getD, length-take, length-append}
+use lib.Seq.{length-take-le}
+use Rattle.encounter.specs.declared.state.Session.{Session}
+use Rattle.encounter.specs.declared.state.Answer.{Answer}
+use Rattle.encounter.specs.declared.state.Taken.{Taken}
+use Rattle.encounter.specs.Session.{refused}
+use Rattle.encounter.specs.Calls.{Request, begin, add, read, bad, request-of, request-at, taken, record-call, Reached}
+use Rattle.listing.specs.Line.{line, room}
+use Rattle.listing.specs.Put.{Put}
+use Rattle.listing.specs.Listing.{final, lines, listing, Goes}
+
+-- ---- the answers that end a script
+
+pub final-one : (a : Answer) → a .refusal ≡ 1 → true ≡ final a
+unfolding final
+final-one a h = rw (eq-eqb (a .refusal) 1 h)
+
+pub final-other : (a : Answer) → (a .refusal ≡ 1 → ⊥) → eqb (a .refusal) 2 ≡ final a
+unfolding final
+final-other a h = rw (ne-eqb (a .refusal) 1 h)
+
+-- ---- a record that does not end the script lies before the next one
+
+-- a request that is refused as it stands is refused as 1 or 2
+abbrev Final : Request → Type 0
+Final (begin E) = Unit {0}
+Final (add count) = Unit {0}
+Final read = Unit {0}
+Final (bad r) = final (refused r) ≡ true
+
+either : {A : Type 0} (P : A → Type 0) (b : Bool) {x y : A} → P x → P y → P (cond b x y)
+either P true f g = f
+either P false f g = g
+
+finals : (l : List ℕ) (i : ℕ) → Final (request-at l i)
+unfolding request-at request-of final
+finals l i =
+    either Final (ltb i (length l))
+    (either Final (eqb (getD l i 0) 1)
+    (either Final (ltb (length l) (i + 1 + 20)) refl tt)
+    (either Final (eqb (getD l i 0) 2)
+    (either Final (ltb (length l) (i + 1 + 2)) refl tt)
+    (either Final (eqb (getD l i 0) 3) tt refl)))
+    refl
+
+moves : (q : Request) (i : ℕ) (s : Session) → Final q → final (taken q i s .answer) ≡ false → i < taken q i s .next
+moves (begin E) i s f h = omega arith
+moves (add count) i s f h = omega arith
+moves read i s f h = omega arith
+moves (bad r) i s f h = absurd (subst T (sym f ∙ h) tt)
+
+pub next-after : (l : List ℕ) (i : ℕ) (s : Session) → final (record-call l i s .answer) ≡ false → i < record-call l i s .next
+unfolding record-call
+next-after l i s h = moves (request-at l i) i s (finals l i) h
+
+pub next-is : (l : List ℕ) (i : ℕ) (s : Session) (t : Taken) → t ≡ record-call l i s → final (t .answer) ≡ false → i < t .next
+next-is l i s t e f = rw e (next-after l i s (rw e at f))
+
+-- ---- the listing
+
+pub listing-end : (l : List ℕ) (i : ℕ) (s : Session) → length l ≤ i → listing l i s ≡ []
+unfolding listing lines
+listing-end l i s h =
+    let e : length l - i ≡ 0 = omega arith in
+    rw e
+
+unless : (b : Bool) {x y : List ℕ} → (b ≡ false → x ≡ y) → cond b [] x ≡ cond b [] y
+unless true f = refl
+unless false f = f refl
+
+-- more records than there are bytes change nothing
+same : (k j : ℕ) (l : List ℕ) (i : ℕ) (s : Session) → length l ≤ i + k → length l ≤ i + j → lines k l i s ≡ lines j l i s
+unfolding lines
+same zero zero l i s h g = refl
+same zero (suc j) l i s h g = rw (le-ltb i (length l) (omega arith))
+same (suc k) zero l i s h g = rw (le-ltb i (length l) (omega arith))
+same (suc k) (suc j) l i s h g =
+    let t = record-call l i s in
+    ap (λ (x : List ℕ). cond (ltb i (length l)) (line i (getD l i 0) (t .answer) ++ x) [])
+    (unless (final (t .answer)) (λ e. let m = next-after l i s e in same k j l (t .next) (t .session) (omega arith) (omega arith)))
+
+pub listing-step :
+    (l : List ℕ) (i : ℕ) (s : Session) →
+    i < length l →
+    listing l i s ≡
+    line i (getD l i 0) (record-call l i s .answer) ++
+    cond (final (record-call l i s .answer)) [] (listing l (record-call l i s .next) (record-call l i s .session))
+unfolding listing lines
+listing-step l i s h =
+    let e : length l - i ≡ suc (length l - suc i) = omega arith in
+    let t = record-call l i s in
+    rw (e, lt-ltb i (length l) h)
+    (ap (λ (x : List ℕ). line i (getD l i 0) (t .answer) ++ x)
+    (unless (final (t .answer)) (λ f. let m = next-after l i s f in same (length l - suc i) (length l - t .next) l (t .next) (t .session) (omega arith) (omega arith))))
+
+-- ---- the text so far
+
+-- the first bytes of the buffer, then the listing from position i on, are the listing due
+pub record Going (l : List ℕ) (i₀ : ℕ) (s₀ : Session) (before out : List ℕ) (used i : ℕ) (s : Session) : Type 0 where
+  pub is : take used out ++ listing l i s ≡ listing l i₀ s₀
+  pub reached : Reached s
+  pub within : used ≤ length out
+  pub same-length : length out ≡ length before
+  pub from : i₀ ≤ i
+  pub some : 0 < used → i₀ < i
+
+pub going-start : (l : List ℕ) (i : ℕ) (s : Session) (out : List ℕ) → Reached s → Going l i s out out 0 i s
+going-start l i s out h =
+    record { is = refl; reached = h; within = omega arith; same-length = refl; from = omega arith; some = λ n. absurd (omega arith) }
+
+-- one line more
+module _ (l : List ℕ) (i₀ : ℕ) (s₀ : Session) (before out out′ : List ℕ) (used i end : ℕ) (s : Session) (t : Taken) where
+  module _
+      (g : Going l i₀ s₀ before out used i s)
+      (h : i < length l)
+      (e : t ≡ record-call l i s)
+      (p : Put out out′ used (line i (getD l i 0) (t .answer)) end)
+    where
+      text : take end out′ ++ cond (final (t .answer)) [] (listing l (t .next) (t .session)) ≡ listing l i₀ s₀
+      text =
+          ap (λ (x : List ℕ). x ++ cond (final (t .answer)) [] (listing l (t .next) (t .session))) (p .is)
+          ∙ append-assoc (take used out) (line i (getD l i 0) (t .answer)) (cond (final (t .answer)) [] (listing l (t .next) (t .session)))
+          ∙ ap (λ (x : List ℕ). take used out ++ x)
+          (ap (λ (x : Taken). line i (getD l i 0) (x .answer) ++ cond (final (x .answer)) [] (listing l (x .next) (x .session))) e ∙ sym (listing-step l i s h))
+          ∙ g .is
+
+      fits : end ≤ length out′
+      fits =
+          let text = line i (getD l i 0) (t .answer) in
+          let a = sym (length-take end out′) ∙ ap length (p .is) ∙ length-append (take used out) text ∙ ap (λ (n : ℕ). n + length text) (length-take-le used out (g .within)) in
+          omega (arith, a, p .ends)
+
+      pub going-on : final (t .answer) ≡ false → Reached (t .session) → Going l i₀ s₀ before out′ end (t .next) (t .session)
+      going-on f r =
+          let m = next-is l i s t e f in
+          record { is = rw f at text; reached = r; within = fits; same-length = p .same ∙ g .same-length; from = omega (arith, g .from); some = λ n. omega (arith, g .from) }
+
+      pub going-stop : final (t .answer) ≡ true → Reached (t .session) → Goes l i₀ s₀ before out′ (record { used = end; next = i; session = t .session; ended = true })
+      going-stop f r =
+          record { is = rw f at text; on = λ n z. absurd (subst T z tt); reached = r; within = fits; same = p .same ∙ g .same-length }
+
+pub going-full :
+    (l : List ℕ) (i₀ : ℕ) (s₀ : Session) (before out : List ℕ) (used i : ℕ) (s : Session) →
+    Going l i₀ s₀ before out used i s →
+    length out < used + room →
+    Goes l i₀ s₀ before out (record { used = used; next = i; session = s; ended = false })
+going-full l i₀ s₀ before out used i s g h =
+    record { is = g .is; on = λ r n. g .some (omega (arith, g .same-length)); reached = g .reached; within = g .within; same = g .same-length }
+
+pub going-end :
+    (l : List ℕ) (i₀ : ℕ) (s₀ : Session) (before out : List ℕ) (used i : ℕ) (s : Session) →
+    Going l i₀ s₀ before out used i s →
+    length l ≤ i →
+    Goes l i₀ s₀ before out (record { used = used; next = i; session = s; ended = true })
+going-end l i₀ s₀ before out used i s g h =
+    record {
+      is = rw (listing-end l i s h) at (g .is);
+      on = λ n z. absurd (subst T z tt);
+      reached = g .reached;
+      within = g .within;
+      same = g .same-length;
+    }

@@ -1,0 +1,68 @@
+-- Text put into a buffer byte by byte, and two texts put one after the other.
+use Prim.Native.Nat.{ℕ, suc, _+_, _≤_, _<_}
+use mathlib.Core.Path.{_≡_, refl, sym, _∙_, ap, subst}
+use mathlib.Core.List.{List, [], _∷_, _++_, append-assoc, append-nil}
+use native.Mathlib.Omega.{arith}
+use native.Mathlib.Nat.{add-zero}
+use lib.ListN.{length, take, set, getD, length-set, length-append}
+use lib.Seq.{take-suc, take-suc-set, take-length}
+use Rattle.listing.specs.Put.{Put}
+
+pub record Half (out₀ out : List ℕ) (at : ℕ) (text : List ℕ) (i : ℕ) : Type 0 where
+  pub is : take (at + i) out ≡ take at out₀ ++ take i text
+  pub same : length out ≡ length out₀
+  pub room : at + length text ≤ length out₀
+  pub within : i ≤ length text
+
+pub half-start : (out : List ℕ) (at : ℕ) (text : List ℕ) → at + length text ≤ length out → Half out out at text 0
+half-start out at text h =
+    record { is = rw (add-zero, append-nil) refl; same = refl; room = h; within = omega arith }
+
+pub half-on :
+    (out₀ out : List ℕ) (at : ℕ) (text : List ℕ) (i : ℕ) →
+    Half out₀ out at text i →
+    i < length text →
+    Half out₀ (set out (at + i) (getD text i 0)) at text (i + 1)
+half-on out₀ out at text i g h =
+    let e : at + (i + 1) ≡ suc (at + i) = omega arith in
+    let f : i + 1 ≡ suc i = omega arith in
+    record {
+      is = rw (e, f)
+          (take-suc-set out (at + i) (getD text i 0) (omega arith)
+          ∙ ap (λ (l : List ℕ). l ++ (getD text i 0 ∷ [])) (g .is)
+          ∙ append-assoc (take at out₀) (take i text) (getD text i 0 ∷ [])
+          ∙ ap (λ (l : List ℕ). take at out₀ ++ l) (sym (take-suc text i 0 h)));
+      same = length-set out (at + i) (getD text i 0) ∙ g .same;
+      room = g .room;
+      within = omega arith;
+    }
+
+pub half-end :
+    (out₀ out : List ℕ) (at : ℕ) (text : List ℕ) (i : ℕ) →
+    Half out₀ out at text i →
+    length text ≤ i →
+    Put out₀ out at text (at + i)
+half-end out₀ out at text i g h =
+    let e : i ≡ length text = omega arith in
+    record {
+      is = g .is ∙ ap (λ (l : List ℕ). take at out₀ ++ l) (ap (λ (n : ℕ). take n text) e ∙ take-length text);
+      ends = ap (λ (n : ℕ). at + n) e;
+      same = g .same;
+    }
+
+-- a text, and another after it
+pub joined :
+    {b0 b1 b2 : List ℕ} {at : ℕ} {t : List ℕ} {r : ℕ} {u : List ℕ} {s : ℕ} →
+    Put b0 b1 at t r →
+    Put b1 b2 r u s →
+    Put b0 b2 at (t ++ u) s
+joined {b0} {b1} {b2} {at} {t} {r} {u} {s} p q =
+    record {
+      is = q .is ∙ ap (λ (l : List ℕ). l ++ u) (p .is) ∙ append-assoc (take at b0) t u;
+      ends = omega (arith, p .ends, q .ends, length-append t u);
+      same = q .same ∙ p .same;
+    }
+
+-- the text put, by another name
+pub renamed : {before after : List ℕ} {at : ℕ} {t u : List ℕ} {r : ℕ} → t ≡ u → Put before after at t r → Put before after at u r
+renamed {before} {after} {at} {r = r} e p = subst (λ (l : List ℕ). Put before after at l r) e p

@@ -1,0 +1,58 @@
+use Rattle.listing.specs.Line.{class-text}
+use mathlib.Core.Path.{sym, ap}
+use Rattle.listing.proofs.Putting.{renamed}
+use native.Mathlib.Omega.{arith}
+use borrow.Author.Needs.{needs}
+use Rattle.listing.proofs.put_class.Statement.{statement}
+use Rattle.listing.proofs.put_class.Tie as tie
+
+enum-told : tie.Need-enum-told
+enum-told c = search needs
+
+slice-aggregate-put : tie.Need-slice-aggregate-put
+slice-aggregate-put c = search needs
+
+put-requires : tie.Need-put-requires
+put-requires c κs = search needs
+
+enum-told-2 : tie.Need-enum-told-2
+enum-told-2 c = search needs
+
+slice-aggregate-put-2 : tie.Need-slice-aggregate-put-2
+slice-aggregate-put-2 c = search needs
+
+put-requires-2 : tie.Need-put-requires-2
+put-requires-2 c κs = search needs
+
+same-length : tie.Need-same-length
+same-length c = search needs
+
+returns : tie.Need-returns
+unfolding class-text
+returns c =
+    let p = c .before .before .put .ensures in
+    (renamed (sym (ap class-text (c .before .before .before .before .before .enum-told .given .1))) p, omega (arith, p .ends))
+
+same-length-2 : tie.Need-same-length-2
+same-length-2 c = search needs
+
+returns-2 : tie.Need-returns-2
+unfolding class-text
+returns-2 c =
+    let p = c .before .before .put2 .ensures in
+    (renamed (sym (ap class-text (c .before .before .before .before .before .enum-told2 .given .1))) p, omega (arith, p .ends))
+
+pub put-class-spec : {M : Type 1} → statement M
+put-class-spec =
+    tie.close
+    (tie.spec
+    enum-told
+    slice-aggregate-put
+    put-requires
+    enum-told-2
+    slice-aggregate-put-2
+    put-requires-2
+    same-length
+    returns
+    same-length-2
+    returns-2)

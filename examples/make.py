@@ -1,0 +1,75 @@
+#!/usr/bin/env python3
+"""Writes the example scripts.
+
+    python3 examples/make.py [FOLDER]
+
+The folder is this one where none is named. A script is records one after another: a byte of kind, then the body,
+numbers little-endian. Lengths are whole centimetres.
+"""
+
+import pathlib
+import struct
+import sys
+
+
+def begin(R, sx, sy, xm, ym):
+    """Kind 1: three unsigned and two signed 32-bit numbers. The order is 1 from here."""
+    return struct.pack("<BIIIii", 1, R, sx, sy, xm, ym)
+
+
+def add(count):
+    """Kind 2: a 16-bit count of terms."""
+    return struct.pack("<BH", 2, count)
+
+
+def read():
+    """Kind 3: no body."""
+    return struct.pack("<B", 3)
+
+
+def reads_at(*orders):
+    """From order 1: for each order N the terms up to it, and a read."""
+    records = b""
+    N = 1
+    for order in orders:
+        if order > N:
+            records += add(order - N)
+        records += read()
+        N = order
+    return records
+
+
+# R, sx, sy, xm, ym. Document 000, Table 3, has these in metres; HALF and FULL are of document 01.
+TEST_1 = 500, 5000, 100, 1000, 0
+CHAN_1 = 500, 5000, 2500, 1000, 0
+CHAN_5 = 1000, 300000, 100000, 100000, 0
+CSM_2 = 130, 575684, 1598, 11505, -8161
+CSM_2_MIRRORED = 130, 575684, 1598, 11505, 8161
+ALFANO_3 = 1500, 11425, 141, 15, -388
+ALFANO_5 = 1000, 17781, 3, 212, -122
+HALF = 10, 10, 10, 0, 0
+FULL = 8, 1, 1, 8, 0
+
+SCRIPTS = {
+    "test-1": begin(*TEST_1) + reads_at(35, 36, 55, 101),
+    "chan-1": begin(*CHAN_1) + reads_at(1, 5, 49),
+    "chan-5": begin(*CHAN_5) + reads_at(1, 3, 49),
+    "alfano-3": begin(*ALFANO_3) + reads_at(596, 597, 765, 1627),
+    "alfano-5": begin(*ALFANO_5) + read(),
+    "document-01": begin(*FULL) + read() + add(4096) + b"\x09",
+    "growing-order": begin(*HALF)
+    + reads_at(1, 2, 3, 4, 5, 6, 8, 10, 20)
+    + begin(*TEST_1)
+    + reads_at(1, 36, 40, 45, 50, 55, 60),
+    "negative-miss": begin(*CSM_2) + reads_at(1, 6) + begin(*CSM_2_MIRRORED) + reads_at(1, 6),
+}
+
+
+def main():
+    folder = pathlib.Path(sys.argv[1]) if len(sys.argv) > 1 else pathlib.Path(__file__).resolve().parent
+    for name, script in SCRIPTS.items():
+        (folder / f"{name}.script").write_bytes(script)
+
+
+if __name__ == "__main__":
+    main()
