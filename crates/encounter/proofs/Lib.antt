@@ -8,3 +8,7 @@ pub mod Answering
 pub mod Requests
 pub mod Stars
 pub mod Invariant
+pub mod LendOne
+pub mod LendFive
+pub mod LendSlice
+pub mod Rows

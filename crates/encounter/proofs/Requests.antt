@@ -99,14 +99,14 @@ answered l i s q t h e f =
     let g : t ≡ taken (request-at l i) i s = f ∙ ap (λ (x : Request). taken x i s) (sym e) in
     (g, subst (λ (x : Taken). Reached (x .session)) (sym g) (after h (takes l i)))
 
-pub begin-taken : (i : ℕ) (s : Session) (E : Encounter) {c : Called} → c ≡ begin-call E s → record { answer = c .answer; session = c .session; next = i + 21 } ≡ taken (begin E) i s
+pub begin-taken : (i : ℕ) (s : Session) (E : Encounter) {c : Called} → c ≡ begin-call E s → record { recorded = record { answer = c .answer; next = i + 21 }; session = c .session } ≡ taken (begin E) i s
 begin-taken i s E e = rw e
 
-pub add-taken : (i : ℕ) (s : Session) (count : ℕ) {c : Called} → c ≡ add-call count s → record { answer = c .answer; session = c .session; next = i + 3 } ≡ taken (add count) i s
+pub add-taken : (i : ℕ) (s : Session) (count : ℕ) {c : Called} → c ≡ add-call count s → record { recorded = record { answer = c .answer; next = i + 3 }; session = c .session } ≡ taken (add count) i s
 add-taken i s count e = rw e
 
-pub read-taken : (i : ℕ) (s : Session) {a : Answer} → a ≡ read-call s .answer → record { answer = a; session = s; next = i + 1 } ≡ taken read i s
+pub read-taken : (i : ℕ) (s : Session) {a : Answer} → a ≡ read-call s .answer → record { recorded = record { answer = a; next = i + 1 }; session = s } ≡ taken read i s
 read-taken i s e = rw (e, read-keeps s)
 
-pub stopped : (r i : ℕ) (s : Session) → record { answer = refused r; session = s; next = i } ≡ taken (bad r) i s
+pub stopped : (r i : ℕ) (s : Session) → record { recorded = record { answer = refused r; next = i }; session = s } ≡ taken (bad r) i s
 stopped r i s = rw add-zero

@@ -45,7 +45,7 @@ u32-at l i = u16-at l i + 65536 * u16-at l (i + 2)
 unfoldable pub signed : ℕ → ℤ
 signed n = cond (ltb n 2147483648) (pos n) (negsuc (4294967295 - n))
 
--- what a call asks for; `bad` is a record that is refused as it stands
+-- what a call asks for; `bad` is a record that is refused as 1 or 2
 pub data Request : Type 0 where
   begin : Encounter → Request
   add : ℕ → Request
@@ -93,7 +93,7 @@ respond (add count) s = add-call count s
 respond read s = read-call s
 respond (bad r) s = refusing r s
 
--- the bytes of a record; a script ends at a record that is refused as 1 or 2
+-- from a record's position to the next one's; 0 where the record is refused as 1 or 2
 abbrev pub width : Request → ℕ
 width (begin E) = 21
 width (add count) = 3
@@ -101,7 +101,7 @@ width read = 1
 width (bad r) = 0
 
 abbrev pub taken : Request → ℕ → Session → Taken
-taken q i s = record { answer = respond q s .answer; session = respond q s .session; next = i + width q }
+taken q i s = record { recorded = record { answer = respond q s .answer; next = i + width q }; session = respond q s .session }
 
 -- the call of the record at a position of a script
 unfoldable pub record-call : List ℕ → ℕ → Session → Taken

@@ -4,6 +4,7 @@ mod arithmetic;
 mod bytes;
 pub mod calls;
 mod exponent;
+pub mod lent;
 mod letters;
 mod powers;
 mod progress;

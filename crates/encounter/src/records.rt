@@ -9,17 +9,21 @@ use crate::bytes::half_at;
 use crate::bytes::signed_at;
 use crate::bytes::word_at;
 use crate::calls;
+use crate::state::Recorded;
 use crate::state::Session;
 use crate::state::Taken;
 
 // A record that ends the script.
 fn stop(r: u32, at: usize, s: Session) -> Taken
-    ensures { λ t. ⌜ t ≡ record { answer = refused r; session = s; next = at } ⌝ }
+    ensures { λ t. ⌜ t ≡ record { recorded = record { answer = refused r; next = at }; session = s } ⌝ }
 {
-    Taken {
+    let recorded = Recorded {
         answer: refuse(r),
-        session: s,
         next: at,
+    };
+    Taken {
+        recorded,
+        session: s,
     }
 }
 
@@ -39,11 +43,9 @@ fn take_begin(script: &[u8], at: usize, s: Session) -> Taken
     );
     let answer = c.answer;
     let session = c.session;
-    Taken {
-        answer,
-        session,
-        next: at + 21,
-    }
+    let next = at + 21;
+    let recorded = Recorded { answer, next };
+    Taken { recorded, session }
 }
 
 // An add whose body lies within the script.
@@ -54,14 +56,12 @@ fn take_add(script: &[u8], at: usize, s: Session) -> Taken
     let c = calls::add(s, half_at(script, at + 1) as u16);
     let answer = c.answer;
     let session = c.session;
-    Taken {
-        answer,
-        session,
-        next: at + 3,
-    }
+    let next = at + 3;
+    let recorded = Recorded { answer, next };
+    Taken { recorded, session }
 }
 
-pub fn take_record(script: &[u8], at: usize, s: Session) -> Taken
+pub fn take_record(s: Session, script: &[u8], at: usize) -> Taken
     requires { ⌜ Reached s ⌝ }
     ensures { λ t. ⌜ (t ≡ record-call (now (script .entry)) at s) × Reached (t .session) ⌝ }
 {
@@ -83,10 +83,12 @@ pub fn take_record(script: &[u8], at: usize, s: Session) -> Taken
         return take_add(script, at, s);
     }
     if kind == 3 {
+        let answer = calls::read(s);
+        let next = at + 1;
+        let recorded = Recorded { answer, next };
         return Taken {
-            answer: calls::read(s),
+            recorded,
             session: s,
-            next: at + 1,
         };
     }
     stop(1, at, s)

@@ -61,9 +61,14 @@ pub struct Called {
     pub session: Session,
 }
 
-// What a record's call answers, the session after it, and the position of the next record.
-pub struct Taken {
+// What a record's call answers, and the position of the next record.
+pub struct Recorded {
     pub answer: Answer,
-    pub session: Session,
     pub next: usize,
+}
+
+// The same, and the session after it.
+pub struct Taken {
+    pub recorded: Recorded,
+    pub session: Session,
 }

@@ -6,7 +6,7 @@ use Prim.Native.Nat.{ℕ, zero, suc, _+_, _-_, _≤_, _<_}
 use native.Mathlib.Omega.{arith}
 use borrow.Author.Tests.{lt-ltb, le-ltb, eq-eqb, ne-eqb}
 use lib.Dec.{ltb, eqb, T}
-use lib.ListN.{length, take, getD, length-take, length-append}
+use lib.ListN.{length, take, drop, getD, length-take, length-append}
 use lib.Seq.{length-take-le}
 use Rattle.encounter.specs.declared.state.Session.{Session}
 use Rattle.encounter.specs.declared.state.Answer.{Answer}
@@ -15,7 +15,8 @@ use Rattle.encounter.specs.Session.{refused}
 use Rattle.encounter.specs.Calls.{Request, begin, add, read, bad, request-of, request-at, taken, record-call, Reached}
 use Rattle.listing.specs.Line.{line, room}
 use Rattle.listing.specs.Put.{Put}
-use Rattle.listing.specs.Listing.{final, lines, listing, Goes}
+use Rattle.listing.proofs.Putting.{dropped}
+use Rattle.listing.specs.Listing.{final, lines, listing, Written, none, more, PieceOf}
 
 -- ---- the answers that end a script
 
@@ -51,17 +52,17 @@ finals l i =
     (either Final (eqb (getD l i 0) 3) tt refl)))
     refl
 
-moves : (q : Request) (i : ℕ) (s : Session) → Final q → final (taken q i s .answer) ≡ false → i < taken q i s .next
+moves : (q : Request) (i : ℕ) (s : Session) → Final q → final (taken q i s .recorded .answer) ≡ false → i < taken q i s .recorded .next
 moves (begin E) i s f h = omega arith
 moves (add count) i s f h = omega arith
 moves read i s f h = omega arith
 moves (bad r) i s f h = absurd (subst T (sym f ∙ h) tt)
 
-pub next-after : (l : List ℕ) (i : ℕ) (s : Session) → final (record-call l i s .answer) ≡ false → i < record-call l i s .next
+pub next-after : (l : List ℕ) (i : ℕ) (s : Session) → final (record-call l i s .recorded .answer) ≡ false → i < record-call l i s .recorded .next
 unfolding record-call
 next-after l i s h = moves (request-at l i) i s (finals l i) h
 
-pub next-is : (l : List ℕ) (i : ℕ) (s : Session) (t : Taken) → t ≡ record-call l i s → final (t .answer) ≡ false → i < t .next
+pub next-is : (l : List ℕ) (i : ℕ) (s : Session) (t : Taken) → t ≡ record-call l i s → final (t .recorded .answer) ≡ false → i < t .recorded .next
 next-is l i s t e f = rw e (next-after l i s (rw e at f))
 
 -- ---- the listing
@@ -84,37 +85,39 @@ same zero (suc j) l i s h g = rw (le-ltb i (length l) (omega arith))
 same (suc k) zero l i s h g = rw (le-ltb i (length l) (omega arith))
 same (suc k) (suc j) l i s h g =
     let t = record-call l i s in
-    ap (λ (x : List ℕ). cond (ltb i (length l)) (line i (getD l i 0) (t .answer) ++ x) [])
-    (unless (final (t .answer)) (λ e. let m = next-after l i s e in same k j l (t .next) (t .session) (omega arith) (omega arith)))
+    ap (λ (x : List ℕ). cond (ltb i (length l)) (line i (getD l i 0) (t .recorded .answer) ++ x) [])
+    (unless (final (t .recorded .answer)) (λ e. let m = next-after l i s e in same k j l (t .recorded .next) (t .session) (omega arith) (omega arith)))
 
 pub listing-step :
     (l : List ℕ) (i : ℕ) (s : Session) →
     i < length l →
     listing l i s ≡
-    line i (getD l i 0) (record-call l i s .answer) ++
-    cond (final (record-call l i s .answer)) [] (listing l (record-call l i s .next) (record-call l i s .session))
+    line i (getD l i 0) (record-call l i s .recorded .answer) ++
+    cond (final (record-call l i s .recorded .answer)) [] (listing l (record-call l i s .recorded .next) (record-call l i s .session))
 unfolding listing lines
 listing-step l i s h =
     let e : length l - i ≡ suc (length l - suc i) = omega arith in
     let t = record-call l i s in
     rw (e, lt-ltb i (length l) h)
-    (ap (λ (x : List ℕ). line i (getD l i 0) (t .answer) ++ x)
-    (unless (final (t .answer)) (λ f. let m = next-after l i s f in same (length l - suc i) (length l - t .next) l (t .next) (t .session) (omega arith) (omega arith))))
+    (ap (λ (x : List ℕ). line i (getD l i 0) (t .recorded .answer) ++ x)
+    (unless (final (t .recorded .answer)) (λ f. let m = next-after l i s f in same (length l - suc i) (length l - t .recorded .next) l (t .recorded .next) (t .session) (omega arith) (omega arith))))
 
 -- ---- the text so far
 
 -- the first bytes of the buffer, then the listing from position i on, are the listing due
 pub record Going (l : List ℕ) (i₀ : ℕ) (s₀ : Session) (before out : List ℕ) (used i : ℕ) (s : Session) : Type 0 where
+  pub written : Written l i₀ s₀ (take used out) i s
   pub is : take used out ++ listing l i s ≡ listing l i₀ s₀
   pub reached : Reached s
   pub within : used ≤ length out
+  pub rest : drop used out ≡ drop used before
   pub same-length : length out ≡ length before
   pub from : i₀ ≤ i
   pub some : 0 < used → i₀ < i
 
 pub going-start : (l : List ℕ) (i : ℕ) (s : Session) (out : List ℕ) → Reached s → Going l i s out out 0 i s
 going-start l i s out h =
-    record { is = refl; reached = h; within = omega arith; same-length = refl; from = omega arith; some = λ n. absurd (omega arith) }
+    record { written = none; is = refl; reached = h; within = omega arith; rest = refl; same-length = refl; from = omega arith; some = λ n. absurd (omega arith) }
 
 -- one line more
 module _ (l : List ℕ) (i₀ : ℕ) (s₀ : Session) (before out out′ : List ℕ) (used i end : ℕ) (s : Session) (t : Taken) where
@@ -122,49 +125,61 @@ module _ (l : List ℕ) (i₀ : ℕ) (s₀ : Session) (before out out′ : List 
       (g : Going l i₀ s₀ before out used i s)
       (h : i < length l)
       (e : t ≡ record-call l i s)
-      (p : Put out out′ used (line i (getD l i 0) (t .answer)) end)
+      (p : Put out out′ used (line i (getD l i 0) (t .recorded .answer)) end)
     where
-      text : take end out′ ++ cond (final (t .answer)) [] (listing l (t .next) (t .session)) ≡ listing l i₀ s₀
+      text : take end out′ ++ cond (final (t .recorded .answer)) [] (listing l (t .recorded .next) (t .session)) ≡ listing l i₀ s₀
       text =
-          ap (λ (x : List ℕ). x ++ cond (final (t .answer)) [] (listing l (t .next) (t .session))) (p .is)
-          ∙ append-assoc (take used out) (line i (getD l i 0) (t .answer)) (cond (final (t .answer)) [] (listing l (t .next) (t .session)))
+          ap (λ (x : List ℕ). x ++ cond (final (t .recorded .answer)) [] (listing l (t .recorded .next) (t .session))) (p .is)
+          ∙ append-assoc (take used out) (line i (getD l i 0) (t .recorded .answer)) (cond (final (t .recorded .answer)) [] (listing l (t .recorded .next) (t .session)))
           ∙ ap (λ (x : List ℕ). take used out ++ x)
-          (ap (λ (x : Taken). line i (getD l i 0) (x .answer) ++ cond (final (x .answer)) [] (listing l (x .next) (x .session))) e ∙ sym (listing-step l i s h))
+          (ap (λ (x : Taken). line i (getD l i 0) (x .recorded .answer) ++ cond (final (x .recorded .answer)) [] (listing l (x .recorded .next) (x .session))) e ∙ sym (listing-step l i s h))
           ∙ g .is
+
+      longer : Written l i₀ s₀ (take end out′) (t .recorded .next) (t .session)
+      longer =
+          subst (λ (x : List ℕ). Written l i₀ s₀ x (t .recorded .next) (t .session)) (sym (p .is))
+          (subst (λ (x : Taken). Written l i₀ s₀ (take used out ++ line i (getD l i 0) (x .recorded .answer)) (x .recorded .next) (x .session)) (sym e) (more (g .written) h))
 
       fits : end ≤ length out′
       fits =
-          let text = line i (getD l i 0) (t .answer) in
+          let text = line i (getD l i 0) (t .recorded .answer) in
           let a = sym (length-take end out′) ∙ ap length (p .is) ∙ length-append (take used out) text ∙ ap (λ (n : ℕ). n + length text) (length-take-le used out (g .within)) in
           omega (arith, a, p .ends)
 
-      pub going-on : final (t .answer) ≡ false → Reached (t .session) → Going l i₀ s₀ before out′ end (t .next) (t .session)
+      past : drop end out′ ≡ drop end before
+      past = p .rest ∙ rw (p .ends) (dropped out before used (length (line i (getD l i 0) (t .recorded .answer))) (g .rest))
+
+      pub going-on : final (t .recorded .answer) ≡ false → Reached (t .session) → Going l i₀ s₀ before out′ end (t .recorded .next) (t .session)
       going-on f r =
           let m = next-is l i s t e f in
-          record { is = rw f at text; reached = r; within = fits; same-length = p .same ∙ g .same-length; from = omega (arith, g .from); some = λ n. omega (arith, g .from) }
+          record { written = longer; is = rw f at text; reached = r; within = fits; rest = past; same-length = p .same ∙ g .same-length; from = omega (arith, g .from); some = λ n. omega (arith, g .from) }
 
-      pub going-stop : final (t .answer) ≡ true → Reached (t .session) → Goes l i₀ s₀ before out′ (record { used = end; next = i; session = t .session; ended = true })
+      pub going-stop : final (t .recorded .answer) ≡ true → Reached (t .session) → PieceOf l i₀ s₀ before out′ (record { used = end; next = t .recorded .next; session = t .session; ended = true })
       going-stop f r =
-          record { is = rw f at text; on = λ n z. absurd (subst T z tt); reached = r; within = fits; same = p .same ∙ g .same-length }
+          record { written = longer; is = rw f at text; on = λ n z. absurd (subst T z tt); left = λ z. absurd (subst T z tt); reached = r; within = fits; rest = past; same = p .same ∙ g .same-length }
 
 pub going-full :
     (l : List ℕ) (i₀ : ℕ) (s₀ : Session) (before out : List ℕ) (used i : ℕ) (s : Session) →
     Going l i₀ s₀ before out used i s →
+    i < length l →
     length out < used + room →
-    Goes l i₀ s₀ before out (record { used = used; next = i; session = s; ended = false })
-going-full l i₀ s₀ before out used i s g h =
-    record { is = g .is; on = λ r n. g .some (omega (arith, g .same-length)); reached = g .reached; within = g .within; same = g .same-length }
+    PieceOf l i₀ s₀ before out (record { used = used; next = i; session = s; ended = false })
+going-full l i₀ s₀ before out used i s g k h =
+    record { written = g .written; is = g .is; on = λ r n. g .some (omega (arith, g .same-length)); left = λ n. k; reached = g .reached; within = g .within; rest = g .rest; same = g .same-length }
 
 pub going-end :
     (l : List ℕ) (i₀ : ℕ) (s₀ : Session) (before out : List ℕ) (used i : ℕ) (s : Session) →
     Going l i₀ s₀ before out used i s →
     length l ≤ i →
-    Goes l i₀ s₀ before out (record { used = used; next = i; session = s; ended = true })
+    PieceOf l i₀ s₀ before out (record { used = used; next = i; session = s; ended = true })
 going-end l i₀ s₀ before out used i s g h =
     record {
+      written = g .written;
       is = rw (listing-end l i s h) at (g .is);
       on = λ n z. absurd (subst T z tt);
+      left = λ z. absurd (subst T z tt);
       reached = g .reached;
       within = g .within;
+      rest = g .rest;
       same = g .same-length;
     }

@@ -4,19 +4,25 @@ use mathlib.Core.Path.{_≡_, refl, sym, _∙_, ap, subst}
 use mathlib.Core.List.{List, [], _∷_, _++_, append-assoc, append-nil}
 use native.Mathlib.Omega.{arith}
 use native.Mathlib.Nat.{add-zero}
-use lib.ListN.{length, take, set, getD, length-set, length-append}
-use lib.Seq.{take-suc, take-suc-set, take-length}
+use native.Mathlib.Numerals.{add-one}
+use lib.ListN.{length, take, drop, set, getD, length-set, length-append}
+use lib.Seq.{take-suc, take-suc-set, take-length, drop-drop, drop-set-lt}
 use Rattle.listing.specs.Put.{Put}
+
+-- lists that agree from index n on agree from a later one on
+pub dropped : (a b : List ℕ) (n k : ℕ) → drop n a ≡ drop n b → drop (n + k) a ≡ drop (n + k) b
+dropped a b n k e = sym (drop-drop k n a) ∙ ap (drop k) e ∙ drop-drop k n b
 
 pub record Half (out₀ out : List ℕ) (at : ℕ) (text : List ℕ) (i : ℕ) : Type 0 where
   pub is : take (at + i) out ≡ take at out₀ ++ take i text
+  pub rest : drop (at + i) out ≡ drop (at + i) out₀
   pub same : length out ≡ length out₀
   pub room : at + length text ≤ length out₀
   pub within : i ≤ length text
 
 pub half-start : (out : List ℕ) (at : ℕ) (text : List ℕ) → at + length text ≤ length out → Half out out at text 0
 half-start out at text h =
-    record { is = rw (add-zero, append-nil) refl; same = refl; room = h; within = omega arith }
+    record { is = rw (add-zero, append-nil) refl; rest = refl; same = refl; room = h; within = omega arith }
 
 pub half-on :
     (out₀ out : List ℕ) (at : ℕ) (text : List ℕ) (i : ℕ) →
@@ -32,6 +38,7 @@ half-on out₀ out at text i g h =
           ∙ ap (λ (l : List ℕ). l ++ (getD text i 0 ∷ [])) (g .is)
           ∙ append-assoc (take at out₀) (take i text) (getD text i 0 ∷ [])
           ∙ ap (λ (l : List ℕ). take at out₀ ++ l) (sym (take-suc text i 0 h)));
+      rest = rw e (drop-set-lt (suc (at + i)) out (at + i) (getD text i 0) (omega arith) ∙ rw add-one at (dropped out out₀ (at + i) 1 (g .rest)));
       same = length-set out (at + i) (getD text i 0) ∙ g .same;
       room = g .room;
       within = omega arith;
@@ -47,6 +54,7 @@ half-end out₀ out at text i g h =
     record {
       is = g .is ∙ ap (λ (l : List ℕ). take at out₀ ++ l) (ap (λ (n : ℕ). take n text) e ∙ take-length text);
       ends = ap (λ (n : ℕ). at + n) e;
+      rest = g .rest;
       same = g .same;
     }
 
@@ -60,6 +68,7 @@ joined {b0} {b1} {b2} {at} {t} {r} {u} {s} p q =
     record {
       is = q .is ∙ ap (λ (l : List ℕ). l ++ u) (p .is) ∙ append-assoc (take at b0) t u;
       ends = omega (arith, p .ends, q .ends, length-append t u);
+      rest = q .rest ∙ rw (q .ends) (dropped b1 b0 r (length u) (p .rest));
       same = q .same ∙ p .same;
     }
 

@@ -16,7 +16,7 @@ abbrev pub ascii : String → List ℕ
 ascii none = []
 ascii (c then s) = code c ∷ ascii s
 
--- "All numbers are decimal without leading zeros": the digit of n below 10, otherwise the digits of n / 10 and then that of n % 10, where n has at most
+-- "All numbers are decimal without leading zeros": where n is below 10, its digit; otherwise the digits of n / 10 and then that of n % 10. n has at most
 -- k digits
 unfoldable pub decimal-of : ℕ → ℕ → List ℕ
 decimal-of zero n = []

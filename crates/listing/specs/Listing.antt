@@ -4,9 +4,10 @@ use mathlib.Core.Bool.{Bool, false, cond, _||_}
 use mathlib.Core.List.{List, [], _++_}
 use Prim.Native.Nat.{ℕ, zero, suc, _-_, _≤_, _<_}
 use lib.Dec.{ltb, eqb}
-use lib.ListN.{length, take, getD}
+use lib.ListN.{length, take, drop, getD}
 use Rattle.encounter.specs.declared.state.Session.{Session}
 use Rattle.encounter.specs.declared.state.Answer.{Answer}
+use Rattle.encounter.specs.Session.{empty, refused}
 use Rattle.encounter.specs.Calls.{record-call, Reached}
 use Rattle.listing.specs.Line.{line, room}
 use Rattle.listing.specs.declared.script.Piece.{Piece}
@@ -20,19 +21,39 @@ unfoldable pub lines : ℕ → List ℕ → ℕ → Session → List ℕ
 lines zero l i s = []
 lines (suc k) l i s =
     cond (ltb i (length l))
-    (line i (getD l i 0) (record-call l i s .answer) ++
-    cond (final (record-call l i s .answer)) [] (lines k l (record-call l i s .next) (record-call l i s .session)))
+    (line i (getD l i 0) (record-call l i s .recorded .answer) ++
+    cond (final (record-call l i s .recorded .answer)) [] (lines k l (record-call l i s .recorded .next) (record-call l i s .session)))
     []
 
 -- every record has its kind byte, so there are no more records than bytes
 unfoldable pub listing : List ℕ → ℕ → Session → List ℕ
 listing l i s = lines (length l - i) l i s
 
--- The listing from position i on, in pieces: the first bytes of the buffer, then the listing from the next position on. How many lines a piece has is left
--- free; with room for a line it has one at least.
-pub record Goes (l : List ℕ) (i : ℕ) (s : Session) (before after : List ℕ) (p : Piece) : Type 0 where
+-- 8: "script file longer than 65,536 bytes (program only, before all else)"; "Refusal 8 prints `0 refused 8` only."
+abbrev pub too-long : Answer
+too-long = refused 8
+
+-- what the program prints
+unfoldable pub printed : List ℕ → List ℕ
+printed l = cond (ltb 65536 (length l)) (line 0 0 too-long) (listing l 0 empty)
+
+-- text is that of some records from position i on, in order; then comes position j, with session t
+pub data Written (l : List ℕ) (i : ℕ) (s : Session) : List ℕ → ℕ → Session → Type 0 where
+  none : Written l i s [] i s
+  more :
+      {text : List ℕ} {j : ℕ} {t : Session} →
+      Written l i s text j t →
+      j < length l →
+      Written l i s (text ++ line j (getD l j 0) (record-call l j t .recorded .answer)) (record-call l j t .recorded .next) (record-call l j t .session)
+
+-- A piece of the listing from position i on: the first bytes of the buffer are the text of its records, and these bytes with the listing from the next
+-- position on are the listing. How many records a piece has is left free; where a byte of the script is left, and room for a line, it has one at least.
+pub record PieceOf (l : List ℕ) (i : ℕ) (s : Session) (before after : List ℕ) (p : Piece) : Type 0 where
+  pub written : Written l i s (take (p .used) after) (p .next) (p .session)
   pub is : take (p .used) after ++ cond (p .ended) [] (listing l (p .next) (p .session)) ≡ listing l i s
   pub on : room ≤ length before → p .ended ≡ false → i < p .next
+  pub left : p .ended ≡ false → p .next < length l
   pub reached : Reached (p .session)
   pub within : p .used ≤ length after
+  pub rest : drop (p .used) after ≡ drop (p .used) before
   pub same : length after ≡ length before

@@ -2,14 +2,15 @@
 use Prim.Native.Nat.{ℕ, _+_, _≤_, _<_}
 use mathlib.Core.Path.{_≡_}
 use mathlib.Core.List.{List, _++_}
-use lib.ListN.{length, take}
+use lib.ListN.{length, take, drop}
 use Rattle.encounter.specs.declared.state.Answer.{Answer}
 use Rattle.listing.specs.Line.{line, room}
 
--- after holds the first at bytes of before and then the text, which ends at index end
+-- after holds the first at bytes of before, then the text, which ends at index end, and then the bytes of before from there on
 pub record Put (before after : List ℕ) (at : ℕ) (text : List ℕ) (end : ℕ) : Type 0 where
   pub is : take end after ≡ take at before ++ text
   pub ends : end ≡ at + length text
+  pub rest : drop end after ≡ drop end before
   pub same : length after ≡ length before
 
 -- where before has less than room bytes from index at on, end is at and nothing changes; otherwise the line is put, of 89 bytes at most

@@ -1,11 +1,14 @@
 // The listing of a script, in pieces.
 ghost use Rattle.encounter.specs.Calls.{Reached};
-ghost use Rattle.listing.specs.Listing.{Goes, final as is-final};
+ghost use Rattle.listing.specs.Listing.{PieceOf, final as is-final, too-long};
+ghost use Rattle.listing.specs.Put.{PutLine};
 ghost use mathlib.Core.Path.{_≡_};
 use crate::put_line;
 use encounter::records::take_record;
 use encounter::state::Answer;
+use encounter::state::Class;
 use encounter::state::Session;
+use exact::Scaled;
 
 // The bytes of the buffer that are used, the next position and the session there, and whether the listing is at its end.
 pub struct Piece {
@@ -25,10 +28,10 @@ fn last(a: Answer) -> bool
     a.refusal == 2
 }
 
-// The lines from a position on, as many as the buffer has room for.
+// The lines of the records from a position on, while the buffer has 100 bytes left.
 pub fn put_lines(script: &[u8], at: usize, s: Session, out: &mut [u8]) -> Piece
     requires { ⌜ Reached s ⌝ }
-    ensures { λ p. ⌜ Goes (now (script .entry)) at s (now (out .entry)) (now (out .exit)) p ⌝ }
+    ensures { λ p. ⌜ PieceOf (now (script .entry)) at s (now (out .entry)) (now (out .exit)) p ⌝ }
 {
     let mut used: usize = 0;
     let mut i = at;
@@ -43,20 +46,21 @@ pub fn put_lines(script: &[u8], at: usize, s: Session, out: &mut [u8]) -> Piece
             };
         }
         let kind = script[i];
-        let r = take_record(script, i, t);
-        let answer = r.answer;
+        let r = take_record(t, script, i);
+        let recorded = r.recorded;
+        let answer = recorded.answer;
         let session = r.session;
         used = put_line(out, used, i, kind, answer);
         if last(answer) {
             return Piece {
                 used,
-                next: i,
+                next: recorded.next,
                 session,
                 ended: true,
             };
         }
         t = session;
-        i = r.next;
+        i = recorded.next;
     }
     Piece {
         used,
@@ -64,4 +68,18 @@ pub fn put_lines(script: &[u8], at: usize, s: Session, out: &mut [u8]) -> Piece
         session: t,
         ended: true,
     }
+}
+
+// The line of a script that is too long.
+pub fn put_too_long(out: &mut [u8]) -> usize
+    ensures { λ r. ⌜ PutLine (now (out .entry)) (now (out .exit)) 0 0 0 too-long r ⌝ }
+{
+    let answer = Answer {
+        refusal: 8,
+        N: 0,
+        lower: Scaled::ZERO,
+        upper: Scaled::ZERO,
+        class: Class::Clear,
+    };
+    put_line(out, 0, 0, 0, answer)
 }

@@ -29,16 +29,19 @@ write-out-requires : tie.Need-write-out-requires Inv-loop μ-loop
 write-out-requires c κs = search needs
 
 loop-less : tie.Need-loop-less Inv-loop μ-loop
-loop-less c = omega (arith, c .before .before .before .before .before .before .before .loop-test .taken, c .before .before .before .before .before .put-lines .ensures .on (omega (arith, c .before .before .before .before .before .before .before .before .loop .inv .1)) (c .before .if1 .left))
+loop-less c = omega (arith, c .before .before .before .before .before .before .before .before .loop-test .taken, c .before .before .before .before .before .before .put-lines .ensures .on (omega (arith, c .before .before .before .before .before .before .before .before .before .loop .inv .1)) (c .before .if2 .left))
 
 loop-again : tie.Need-loop-again Inv-loop μ-loop
-loop-again c = (c .before .before .before .before .before .put-lines .ensures .reached, c .before .before .before .before .before .before .before .before .loop .inv .1 ∙ sym (c .before .before .before .before .before .put-lines .ensures .same))
+loop-again c = (c .before .before .before .before .before .before .put-lines .ensures .reached, c .before .before .before .before .before .before .before .before .before .loop .inv .1 ∙ sym (c .before .before .before .before .before .before .put-lines .ensures .same))
 
 returns : tie.Need-returns Inv-loop μ-loop
 returns c = search needs
 
 returns-2 : tie.Need-returns-2 Inv-loop μ-loop
 returns-2 c = search needs
+
+returns-3 : tie.Need-returns-3 Inv-loop μ-loop
+returns-3 c = search needs
 
 pub run-spec : {M : Type 1} → statement M
 run-spec =
@@ -54,4 +57,5 @@ run-spec =
     loop-less
     loop-again
     returns
-    returns-2)
+    returns-2
+    returns-3)

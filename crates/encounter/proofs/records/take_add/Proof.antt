@@ -18,8 +18,8 @@ cast-add c = search needs
 add-requires : tie.Need-add-requires
 add-requires c κs = search needs
 
-add-t8 : tie.Need-add-t8
-add-t8 c = search needs
+add-next : tie.Need-add-next
+add-next c = search needs
 
 returns : tie.Need-returns
 returns c =
@@ -29,4 +29,4 @@ returns c =
 
 pub take-add-spec : {M : Type 1} → statement M
 take-add-spec =
-    tie.close (tie.spec add-half-at half-at-requires cast-add add-requires add-t8 returns)
+    tie.close (tie.spec add-half-at half-at-requires cast-add add-requires add-next returns)

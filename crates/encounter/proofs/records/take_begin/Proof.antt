@@ -40,8 +40,8 @@ signed-at-requires-2 c κs = search needs
 begin-requires : tie.Need-begin-requires
 begin-requires c κs = search needs
 
-add-t10 : tie.Need-add-t10
-add-t10 c = search needs
+add-next : tie.Need-add-next
+add-next c = search needs
 
 returns : tie.Need-returns
 returns c =
@@ -66,5 +66,5 @@ take-begin-spec =
     add-signed-at-2
     signed-at-requires-2
     begin-requires
-    add-t10
+    add-next
     returns)

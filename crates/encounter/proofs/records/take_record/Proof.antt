@@ -54,8 +54,8 @@ returns-5 c =
 read-requires : tie.Need-read-requires
 read-requires c κs = search needs
 
-add-t13 : tie.Need-add-t13
-add-t13 c = search needs
+add-next : tie.Need-add-next
+add-next c = search needs
 
 returns-6 : tie.Need-returns-6
 returns-6 c =
@@ -87,7 +87,7 @@ take-record-spec =
     take-add-requires
     returns-5
     read-requires
-    add-t13
+    add-next
     returns-6
     stop-requires-4
     returns-7)

@@ -23,7 +23,7 @@ same-length : tie.Need-same-length Inv-loop μ-loop
 same-length c = search needs
 
 returns : tie.Need-returns Inv-loop μ-loop
-returns c = going-full _ _ _ _ _ _ _ _ (c .before .before .loop .inv) (omega (arith, c .before .before .loop .inv .within, c .if1 .taken))
+returns c = going-full _ _ _ _ _ _ _ _ (c .before .before .loop .inv) (c .before .loop-test .taken) (omega (arith, c .before .before .loop .inv .within, c .if1 .taken))
 
 shared-slice-read-kind : tie.Need-shared-slice-read-kind Inv-loop μ-loop
 shared-slice-read-kind c = search needs
@@ -42,22 +42,22 @@ same-length-2 c = search needs
 
 returns-2 : tie.Need-returns-2 Inv-loop μ-loop
 returns-2 c =
-    let r = c .before .before .before .before .before .before .before .before .take-record in
-    let g = c .before .before .before .before .before .before .before .before .before .before .before .before .loop .inv in
-    let p = c .before .before .before .before .put-line .ensures .written (omega (arith, g .within, c .before .before .before .before .before .before .before .before .before .before .if1 .left)) in
-    going-stop _ _ _ _ _ _ _ _ _ _ (r .result) g (c .before .before .before .before .before .before .before .before .before .before .before .loop-test .taken) (r .ensures .0) p (sym (c .before .last .ensures) ∙ c .if2 .taken) (r .ensures .1)
+    let r = c .before .before .before .before .before .before .before .before .before .take-record in
+    let g = c .before .before .before .before .before .before .before .before .before .before .before .before .before .loop .inv in
+    let p = c .before .before .before .before .put-line .ensures .written (omega (arith, g .within, c .before .before .before .before .before .before .before .before .before .before .before .if1 .left)) in
+    going-stop _ _ _ _ _ _ _ _ _ _ (r .result) g (c .before .before .before .before .before .before .before .before .before .before .before .before .loop-test .taken) (r .ensures .0) p (sym (c .before .last .ensures) ∙ c .if2 .taken) (r .ensures .1)
 
 loop-less : tie.Need-loop-less Inv-loop μ-loop
 loop-less c =
-    let r = c .before .before .before .before .before .before .before .before .take-record in
-    omega (arith, c .before .before .before .before .before .before .before .before .before .before .before .loop-test .taken, next-is _ _ _ (r .result) (r .ensures .0) (sym (c .before .last .ensures) ∙ c .if2 .left))
+    let r = c .before .before .before .before .before .before .before .before .before .take-record in
+    omega (arith, c .before .before .before .before .before .before .before .before .before .before .before .before .loop-test .taken, next-is _ _ _ (r .result) (r .ensures .0) (sym (c .before .last .ensures) ∙ c .if2 .left))
 
 loop-again : tie.Need-loop-again Inv-loop μ-loop
 loop-again c =
-    let r = c .before .before .before .before .before .before .before .before .take-record in
-    let g = c .before .before .before .before .before .before .before .before .before .before .before .before .loop .inv in
-    let p = c .before .before .before .before .put-line .ensures .written (omega (arith, g .within, c .before .before .before .before .before .before .before .before .before .before .if1 .left)) in
-    going-on _ _ _ _ _ _ _ _ _ _ (r .result) g (c .before .before .before .before .before .before .before .before .before .before .before .loop-test .taken) (r .ensures .0) p (sym (c .before .last .ensures) ∙ c .if2 .left) (r .ensures .1)
+    let r = c .before .before .before .before .before .before .before .before .before .take-record in
+    let g = c .before .before .before .before .before .before .before .before .before .before .before .before .before .loop .inv in
+    let p = c .before .before .before .before .put-line .ensures .written (omega (arith, g .within, c .before .before .before .before .before .before .before .before .before .before .before .if1 .left)) in
+    going-on _ _ _ _ _ _ _ _ _ _ (r .result) g (c .before .before .before .before .before .before .before .before .before .before .before .before .loop-test .taken) (r .ensures .0) p (sym (c .before .last .ensures) ∙ c .if2 .left) (r .ensures .1)
 
 same-length-3 : tie.Need-same-length-3 Inv-loop μ-loop
 same-length-3 c = search needs
