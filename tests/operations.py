@@ -3,7 +3,7 @@
 
     python3 tests/operations.py [--root FOLDER] [--seed N]
 
-The functions are in a private module, which scratch.py makes public in a copy of the crates. It runs a
+The functions are in private modules, which scratch.py makes public in a copy of the crates. It runs a
 program there, interpreted and compiled, that answers each case.
 """
 
@@ -38,6 +38,9 @@ use crate::words::signed;
 use crate::words::unsigned;
 use crate::words::word;
 use encounter::arithmetic;
+use encounter::wide::narrowed;
+use encounter::wide::over;
+use encounter::wide::widen;
 use exact::Scaled;
 
 fn long(b: &[u8; 18], at: usize) -> u64 {
@@ -60,7 +63,7 @@ fn answer(b: &[u8; 18]) -> Scaled {
     match b[0] {
         0 => arithmetic::product(up, scaled(b, 2), scaled(b, 10)),
         1 => arithmetic::sum(up, scaled(b, 2), scaled(b, 10)),
-        2 => arithmetic::over(up, scaled(b, 2), word(b, 10)),
+        2 => narrowed(over(up, widen(scaled(b, 2)), word(b, 10) as u64)),
         3 => arithmetic::quotient(up, scaled(b, 2), scaled(b, 10)),
         4 => arithmetic::ratio(up, long(b, 2), long(b, 10)),
         5 => arithmetic::halved(scaled(b, 2)),
@@ -376,7 +379,7 @@ def main():
     answers = list(map(expected, cases))
     with tempfile.TemporaryDirectory() as name:
         folder = pathlib.Path(name)
-        scratch.repository(words.root, folder, DRIVER, private=["arithmetic"])
+        scratch.repository(words.root, folder, DRIVER, private=["arithmetic", "wide"])
         found = list(itertools.islice(differences(folder, cases, answers), SHOWN))
     if found:
         print("\n".join(found))

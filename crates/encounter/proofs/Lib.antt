@@ -12,3 +12,5 @@ pub mod LendOne
 pub mod LendFive
 pub mod LendSlice
 pub mod Rows
+pub mod WholeParts
+pub mod Pairs

@@ -1,4 +1,4 @@
--- One term more, from the session's numbers: what `one_more` forms is the next progress.
+-- One term more on both sides: what the loop of `advance` holds at index n is the progress there.
 use mathlib.Core.Path.{_≡_, _∙_, ap}
 use mathlib.Core.Bool.{Bool, true, false}
 use Prim.Native.Nat.{ℕ, zero, suc, pred, _+_, _-_, _*_, _^_, _≤_, _<_}
@@ -8,25 +8,22 @@ use Rattle.exact.specs.declared.Scaled.{Scaled}
 use Rattle.exact.specs.Scaled.{value, InRange}
 use Rattle.exact.specs.Rounding.{round}
 use Rattle.exact.specs.Encounter.{Encounter}
-use Rattle.exact.specs.Steps.{next, next-d, terms, tail-term}
+use Rattle.exact.specs.Steps.{Letters as StepLetters, Terms as StepTerms, next, next-d, terms, tail-term}
 use Rattle.exact.specs.Bracket.{side-letters, side-start, side-terms, M, d}
 use Rattle.exact.specs.Ranges.{Letters-in, Terms-in}
 use Rattle.exact.proofs.Accepted.{facts}
 use Rattle.exact.proofs.Ranges.{widen}
 use Rattle.exact.proofs.Exponents.{terms-in, tail-in, bound-in, letters-in, start-in}
-use Rattle.encounter.specs.declared.state.Letters.{Letters}
 use Rattle.encounter.specs.declared.state.Terms.{Terms}
 use Rattle.encounter.specs.declared.state.Side.{Side}
 use Rattle.encounter.specs.declared.state.Session.{Session}
 use Rattle.encounter.specs.declared.progress.Progress.{Progress}
+use Rattle.encounter.specs.declared.wide.Wide.{Wide}
+use Rattle.encounter.specs.declared.sides.LetterPairs.{LetterPairs}
+use Rattle.encounter.specs.declared.sides.TermPairs.{TermPairs}
 use Rattle.encounter.specs.Session.{held-letters, step-letters, held-terms, step-terms, side, state, encounter, progress, Begun}
-use Rattle.encounter.proofs.Opening.{letters-fine}
-
--- the progress that a state at order N holds
-order-progress : (E : Encounter) (N : ℕ) → 1 ≤ N → record { lower = held-terms (side-terms false E (pred N)); upper = held-terms (side-terms true E (pred N)); d = d E N } ≡ progress E (N - 1)
-unfolding progress
-order-progress E zero l = let f : ⊥ = omega arith in absurd f
-order-progress E (suc n) l = let e : suc n - 1 ≡ n = omega arith in rw e
+use Rattle.encounter.specs.Wide.{narrow, letters-of, terms-of}
+use Rattle.encounter.proofs.Pairs.{by-side}
 
 module _ (s : Session) (b : Begun s) where
   abbrev pub E : Encounter
@@ -44,17 +41,14 @@ module _ (s : Session) (b : Begun s) where
   unfolding state
   M-is = ap (λ (x : Session). x .M) (b .is)
 
-  pub lower-fine : Letters-in (step-letters (s .lower .letters))
-  lower-fine = letters-fine false E (facts (b .fine) .bounds) lower-letters-are
-
-  pub upper-fine : Letters-in (step-letters (s .upper .letters))
-  upper-fine = letters-fine true E (facts (b .fine) .bounds) upper-letters-are
+  M-range : InRange 32 400 (M E)
+  unfolding M side-letters
+  M-range = bound-in true _ (letters-in true (facts (b .fine) .bounds))
 
   pub M-fine : InRange 32 400 (s .M)
-  unfolding M side-letters
-  M-fine = rw M-is (bound-in true _ (letters-in true (facts (b .fine) .bounds)))
+  M-fine = rw M-is M-range
 
-  -- ---- at index n
+  -- at index n
   module _ (n : ℕ) (nl : n ≤ 4096) where
     small : 700 * n + 400 ≤ 2 ^ 22
     small = omega arith
@@ -65,49 +59,96 @@ module _ (s : Session) (b : Begun s) where
         let q = terms-in up _ (letters-in up (facts (b .fine) .bounds)) (start-in up (facts (b .fine) .bounds)) n nl in
         record { c = widen small (q .c); p = widen small (q .p); v = widen small (q .v); y = widen small (q .y); sum = widen small (q .sum) }
 
-    pub lower-terms-fine : {p : Progress} → p ≡ progress E n → Terms-in (2 ^ 22) (step-terms (p .lower))
-    unfolding progress
-    lower-terms-fine e = rw e (terms-fine false)
-
-    pub upper-terms-fine : {p : Progress} → p ≡ progress E n → Terms-in (2 ^ 22) (step-terms (p .upper))
-    unfolding progress
-    upper-terms-fine e = rw e (terms-fine true)
-
   pub d-range : (n : ℕ) → n ≤ 4096 → InRange 32 (2 ^ 22) (d E n)
   unfolding d side-start M side-letters
   d-range n nl = widen (omega arith) (tail-in true (start-in true (facts (b .fine) .bounds)) (bound-in true _ (letters-in true (facts (b .fine) .bounds))) n nl)
 
-  pub d-fine : (n : ℕ) → n < 4096 → {p : Progress} → p ≡ progress E n → InRange 32 (2 ^ 22) (p .d)
-  unfolding progress
-  d-fine n nl e = rw e (d-range (suc n) nl)
+-- ---- both sides together, as the loop holds them
 
-  -- ---- the next
+-- an encounter's numbers at index n
+pub record Holds (E : Encounter) (l : LetterPairs) (m : Wide) (t : TermPairs) (x : Wide) (n : ℕ) : Type 0 where
+  pub letters-are : (up : Bool) → letters-of up l ≡ side-letters up E
+  pub bound-is : narrow m ≡ M E
+  pub terms-are : (up : Bool) → terms-of up t ≡ side-terms up E n
+  pub tail-is : narrow x ≡ d E (suc n)
 
-  next-side : (up : Bool) (n : ℕ) (l : Letters) (t r : Terms) → l ≡ held-letters (side-letters up E) → t ≡ held-terms (side-terms up E n)
-      → r ≡ held-terms (next value (round up 32) (step-letters l) n (step-terms t)) → r ≡ held-terms (side-terms up E (n + 1))
-  unfolding side-terms terms
-  next-side up n l t r el et er = er ∙ rw (el, et, add-one)
+module _ (s : Session) (b : Begun s) where
+  index : pred (s .N) ≡ s .N - 1
+  index = omega arith
 
-  next-d-is : (n : ℕ) (m x r : Scaled) → m ≡ M E → x ≡ d E (suc n) → r ≡ next-d value (round true 32) m (n + 1) x → r ≡ d E (suc (n + 1))
-  unfolding d tail-term
-  next-d-is n m x r em ex er = er ∙ rw (em, ex, add-one)
+  order : s .N ≡ suc (s .N - 1)
+  order = omega (arith, b .low)
 
-  pub one-more-is : (n : ℕ) (p : Progress) (lo hi : Terms) (x : Scaled) → p ≡ progress E n
-      → lo ≡ held-terms (next value (round false 32) (step-letters (s .lower .letters)) n (step-terms (p .lower)))
-      → hi ≡ held-terms (next value (round true 32) (step-letters (s .upper .letters)) n (step-terms (p .upper)))
-      → x ≡ next-d value (round true 32) (s .M) (n + 1) (p .d)
-      → record { lower = lo; upper = hi; d = x } ≡ progress E (n + 1)
-  unfolding progress
-  one-more-is n p lo hi x e el eh ex =
-      let a = next-side false n (s .lower .letters) (p .lower) lo lower-letters-are (ap (λ (q : Progress). q .lower) e) el in
-      let b = next-side true n (s .upper .letters) (p .upper) hi upper-letters-are (ap (λ (q : Progress). q .upper) e) eh in
-      let c = next-d-is n (s .M) (p .d) x M-is (ap (λ (q : Progress). q .d) e) ex in
-      λ i. record { lower = a i; upper = b i; d = c i }
-
-  -- the session's own progress
-  pub held-progress : record { lower = s .lower .terms; upper = s .upper .terms; d = s .d } ≡ progress E (s .N - 1)
+  lower-terms-are : step-terms (s .lower .terms) ≡ side-terms false (encounter s) (s .N - 1)
   unfolding state side
-  held-progress = ap (λ (x : Session). record { lower = x .lower .terms; upper = x .upper .terms; d = x .d }) (b .is) ∙ order-progress E (s .N) (b .low)
+  lower-terms-are = ap (λ (x : Session). step-terms (x .lower .terms)) (b .is) ∙ ap (side-terms false (encounter s)) index
+
+  upper-terms-are : step-terms (s .upper .terms) ≡ side-terms true (encounter s) (s .N - 1)
+  unfolding state side
+  upper-terms-are = ap (λ (x : Session). step-terms (x .upper .terms)) (b .is) ∙ ap (side-terms true (encounter s)) index
+
+  tail-at : s .d ≡ d (encounter s) (suc (s .N - 1))
+  unfolding state
+  tail-at = ap (λ (x : Session). x .d) (b .is) ∙ ap (d (encounter s)) order
+
+  pub start-holds : {l : LetterPairs} {m : Wide} {t : TermPairs} {x : Wide}
+      → (letters-of false l ≡ step-letters (s .lower .letters)) × (letters-of true l ≡ step-letters (s .upper .letters)) → narrow m ≡ s .M
+      → (terms-of false t ≡ step-terms (s .lower .terms)) × (terms-of true t ≡ step-terms (s .upper .terms)) → narrow x ≡ s .d
+      → Holds (encounter s) l m t x (s .N - 1)
+  start-holds el em et ex = record {
+    letters-are = by-side _ (el .0 ∙ ap step-letters (lower-letters-are s b)) (el .1 ∙ ap step-letters (upper-letters-are s b));
+    bound-is = em ∙ M-is s b;
+    terms-are = by-side _ (et .0 ∙ lower-terms-are) (et .1 ∙ upper-terms-are);
+    tail-is = ex ∙ tail-at;
+  }
+
+-- the ranges
+module _ {s : Session} (b : Begun s) {l : LetterPairs} {m : Wide} {t : TermPairs} {x : Wide} {n : ℕ} (h : Holds (encounter s) l m t x n) where
+  pub letters-held : (up : Bool) → Letters-in (letters-of up l)
+  unfolding side-letters
+  letters-held up = rw (h .letters-are up) (letters-in up (facts (b .fine) .bounds))
+
+  pub bound-held : InRange 32 400 (narrow m)
+  bound-held = rw (h .bound-is) (M-range s b)
+
+  pub terms-held : n < 4096 → (up : Bool) → Terms-in (2 ^ 22) (terms-of up t)
+  terms-held nl up = rw (h .terms-are up) (terms-fine s b n (omega arith) up)
+
+  pub tail-held : n < 4096 → InRange 32 (2 ^ 22) (narrow x)
+  tail-held nl = rw (h .tail-is) (d-range s b (suc n) (omega arith))
+
+module _ (E : Encounter) (n : ℕ) where
+  next-side : (up : Bool) {l : StepLetters Scaled} {t r : StepTerms Scaled} → l ≡ side-letters up E → t ≡ side-terms up E n
+      → r ≡ next value (round up 32) l n t → r ≡ side-terms up E (n + 1)
+  unfolding side-terms terms
+  next-side up el et er = er ∙ rw (el, et, add-one)
+
+  next-d-is : {m x r : Scaled} → m ≡ M E → x ≡ d E (suc n) → r ≡ next-d value (round true 32) m (n + 1) x → r ≡ d E (suc (n + 1))
+  unfolding d tail-term
+  next-d-is em ex er = er ∙ rw (em, ex, add-one)
+
+  -- one term more
+  pub next-holds : {l : LetterPairs} {m : Wide} {t t′ : TermPairs} {x x′ : Wide} → Holds E l m t x n
+      → ((up : Bool) → terms-of up t′ ≡ next value (round up 32) (letters-of up l) n (terms-of up t))
+      → narrow x′ ≡ next-d value (round true 32) (narrow m) (n + 1) (narrow x)
+      → Holds E l m t′ x′ (n + 1)
+  next-holds h et ex = record {
+    letters-are = h .letters-are;
+    bound-is = h .bound-is;
+    terms-are = λ up. next-side up (h .letters-are up) (h .terms-are up) (et up);
+    tail-is = next-d-is (h .bound-is) (h .tail-is) ex;
+  }
+
+  -- after the loop
+  pub holds-progress : {l : LetterPairs} {m : Wide} {t : TermPairs} {x : Wide} {lo hi : Terms} {y : Scaled} → Holds E l m t x n
+      → lo ≡ held-terms (terms-of false t) → hi ≡ held-terms (terms-of true t) → y ≡ narrow x
+      → record { lower = lo; upper = hi; d = y } ≡ progress E n
+  unfolding progress
+  holds-progress h el eh ey =
+      let a = el ∙ ap held-terms (h .terms-are false) in
+      let b = eh ∙ ap held-terms (h .terms-are true) in
+      let c = ey ∙ h .tail-is in
+      λ i. record { lower = a i; upper = b i; d = c i }
 
 -- the session after an add, by its fields
 module _ (s : Session) (b : Begun s) where

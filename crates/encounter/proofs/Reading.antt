@@ -113,10 +113,10 @@ module _ (s : Session) (b : Begun s) where
   unfolding upper-end tail-bound lower-exponential
   upper-end-is ey ex er = er ∙ rw (ex, ey, ← sum-double true 32 (s .upper .terms .sum) (s .d) (lit< tt), upper-sum-is, lower-exponential-is, d-is)
 
-  pub lower-end-fine : InRange 32 (2 ^ 28) (lower-end E (s .N))
+  pub lower-end-fine : {x : Scaled} → x ≡ lower-end E (s .N) → InRange 32 (2 ^ 28) x
   unfolding lower-end
-  lower-end-fine =
-      rw (← lower-sum-is)
+  lower-end-fine e =
+      rw (e, ← lower-sum-is)
       (widen (lit≤ tt) (per-range false 32 (lit< tt) lower-sum-fine (whole-range (upper-exponential E) formed) (upper-exponential-normal (double (s .r256)) formed)))
     where
       formed : upper-exponential E ≡ round true 32 (value (s .upper .exponential) ⊕ value (double (s .r256)))

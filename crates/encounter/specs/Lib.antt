@@ -2,3 +2,4 @@ pub mod Stars
 pub mod Session
 pub mod Calls
 pub mod Enclosure
+pub mod Wide

@@ -6,12 +6,11 @@ use lib.IntN.{pos}
 use Rattle.exact.specs.declared.Scaled.{Scaled}
 use Rattle.exact.specs.Scaled.{nought}
 use Rattle.exact.specs.Encounter.{Encounter}
-use Rattle.exact.specs.Steps.{Letters as StepLetters, Terms as StepTerms, Powers as StepPowers}
+use Rattle.exact.specs.Steps.{Letters as StepLetters, Terms as StepTerms}
 use Rattle.exact.specs.Bracket.{side-letters, side-terms, side-powers, M, d, lower-end, upper-end, alert}
 use Rattle.encounter.specs.declared.state.Letters.{Letters}
 use Rattle.encounter.specs.declared.state.Terms.{Terms}
 use Rattle.exact.specs.Accepted.{Accepted}
-use Rattle.encounter.specs.declared.powers.Powers.{Powers}
 use Rattle.encounter.specs.declared.progress.Progress.{Progress}
 use Rattle.encounter.specs.declared.state.Side.{Side}
 use Rattle.encounter.specs.declared.state.Session.{Session}
@@ -34,12 +33,6 @@ held-terms s = record { c = s .c; p = s .p; v = s .v; y = s .y; sum = s .sum }
 
 abbrev pub step-terms : Terms → StepTerms Scaled
 step-terms s = record { c = s .c; p = s .p; v = s .v; y = s .y; sum = s .sum }
-
-abbrev pub held-powers : StepPowers Scaled → Powers
-held-powers w = record { r = w .r; sum = w .sum }
-
-abbrev pub step-powers : Powers → StepPowers Scaled
-step-powers w = record { r = w .r; sum = w .sum }
 
 -- "It starts empty, with zero in every field."
 abbrev no-side : Side

@@ -25,6 +25,8 @@ use crate::letters::start;
 use crate::powers::exponential;
 use crate::powers::next;
 use crate::progress::advance;
+use crate::sides::pair_of;
+use crate::sides::side;
 use crate::state::Answer;
 use crate::state::Called;
 use crate::state::Class;
@@ -34,6 +36,8 @@ use crate::state::Side;
 use crate::state::Terms;
 use crate::terms::first_terms;
 use crate::terms::next_tail;
+use crate::wide::narrowed;
+use crate::wide::widen;
 use exact::Scaled;
 
 impl Session {
@@ -141,14 +145,14 @@ fn opened(R: u32, sx: u32, sy: u32, xm: i32, ym: i32, above: Letters) -> Session
     let below = letters(false, R, sx, sy, xm, ym);
     let small = start(false, R, sx, sy, xm, ym);
     let large = start(true, R, sx, sy, xm, ym);
-    let low = exponential(false, below.t);
-    let high = exponential(true, above.t);
-    let last = next(true, above.t, high, 255);
+    let t = pair_of(below.t, above.t);
+    let powers = exponential(t);
+    let last = next(t, powers, 255);
     let M = bound(above);
-    let d = next_tail(M, large, 0);
-    let lower = open_side(false, below, small, low.sum);
-    let upper = open_side(true, above, large, high.sum);
-    let r256 = last.r;
+    let d = narrowed(next_tail(widen(M), widen(large), 0));
+    let lower = open_side(false, below, small, side(false, powers.sum));
+    let upper = open_side(true, above, large, side(true, powers.sum));
+    let r256 = side(true, last.r);
     Session {
         R,
         sx,

@@ -6,13 +6,6 @@ ghost use mir.Syntax.{w32};
 ghost use mir.Val.{SFits};
 ghost use Rattle.exact.specs.Integer.{posPart, negPart};
 
-pub fn plus(a: i32, b: i32) -> i32
-    requires { ⌜ SFits w32 (a +ℤ b) ⌝ }
-    ensures { λ r. ⌜ r ≡ a +ℤ b ⌝ }
-{
-    a + b
-}
-
 pub fn minus(a: i32, b: i32) -> i32
     requires { ⌜ SFits w32 (a -ℤ b) ⌝ }
     ensures { λ r. ⌜ r ≡ a -ℤ b ⌝ }

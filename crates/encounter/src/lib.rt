@@ -10,5 +10,7 @@ mod powers;
 mod progress;
 pub mod records;
 mod rounding;
+mod sides;
 pub mod state;
 mod terms;
+mod wide;

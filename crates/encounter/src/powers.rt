@@ -1,42 +1,40 @@
-// One side's exponential.
+// The exponentials of both sides, term by term.
 ghost use mathlib.Core.Path.{_≡_};
+ghost use mathlib.Core.Bool.{Bool};
 ghost use Prim.Native.Nat.{_^_, _<_};
 ghost use Rattle.exact.specs.Scaled.{one, value, InRange};
 ghost use Rattle.exact.specs.Rounding.{round};
 ghost use Rattle.exact.specs.Steps.{next-power, powers as powersOf};
 ghost use Rattle.exact.specs.Ranges.{Powers-in};
-ghost use Rattle.encounter.specs.Session.{held-powers, step-powers};
-use crate::arithmetic::over;
-use crate::arithmetic::product;
-use crate::arithmetic::sum;
+ghost use Rattle.encounter.specs.Wide.{side-of, powers-of};
+use crate::sides::Pair;
+use crate::sides::PowerPairs;
+use crate::sides::overs;
+use crate::sides::pair_of;
+use crate::sides::products;
+use crate::sides::sums;
 use exact::Scaled;
 
-// r(k), and the sum of r(0) to r(k).
-pub struct Powers {
-    pub r: Scaled,
-    pub sum: Scaled,
-}
-
 // From k to k + 1.
-pub fn next(up: bool, t: Scaled, w: Powers, k: u32) -> Powers
-    requires { ⌜ (k < 4096) × (InRange 32 387 t) × (Powers-in (2 ^ 22) (step-powers w)) ⌝ }
-    ensures { λ r. ⌜ r ≡ held-powers (next-power value (round up 32) one t k (step-powers w)) ⌝ }
+pub fn next(t: Pair, w: PowerPairs, k: u64) -> PowerPairs
+    requires { ⌜ (k < 4096) × ((up : Bool) → InRange 32 387 (side-of up t)) × ((up : Bool) → Powers-in (2 ^ 22) (powers-of up w)) ⌝ }
+    ensures { λ r. ⌜ ((up : Bool) → powers-of up r ≡ next-power value (round up 32) one (side-of up t) k (powers-of up w)) ⌝ }
 {
-    let r = over(up, product(up, w.r, t), k + 1);
-    let total = sum(up, w.sum, r);
-    Powers { r, sum: total }
+    let r = overs(products(w.r, t), k + 1);
+    let sum = sums(w.sum, r);
+    PowerPairs { r, sum }
 }
 
 // k = 255.
-pub fn exponential(up: bool, t: Scaled) -> Powers
-    requires { ⌜ InRange 32 387 t ⌝ }
-    ensures { λ r. ⌜ r ≡ held-powers (powersOf value (round up 32) one t 255) ⌝ }
+pub fn exponential(t: Pair) -> PowerPairs
+    requires { ⌜ ((up : Bool) → InRange 32 387 (side-of up t)) ⌝ }
+    ensures { λ r. ⌜ ((up : Bool) → powers-of up r ≡ powersOf value (round up 32) one (side-of up t) 255) ⌝ }
 {
-    let unit = Scaled::ONE;
-    let mut w = Powers { r: unit, sum: unit };
-    let mut k: u32 = 0;
+    let unit = pair_of(Scaled::ONE, Scaled::ONE);
+    let mut w = PowerPairs { r: unit, sum: unit };
+    let mut k: u64 = 0;
     while k < 255 {
-        w = next(up, t, w, k);
+        w = next(t, w, k);
         k += 1;
     }
     w

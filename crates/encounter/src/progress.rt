@@ -1,11 +1,16 @@
 // Both sides' terms and the upper d, taken on term by term.
 ghost use mathlib.Core.Path.{_≡_};
-ghost use Prim.Native.Nat.{_+_, _-_, _≤_, _<_};
+ghost use Prim.Native.Nat.{_+_, _-_, _≤_};
 ghost use Rattle.encounter.specs.Session.{progress, encounter, Begun};
+use crate::sides::letter_pairs;
+use crate::sides::side_terms;
+use crate::sides::term_pairs;
 use crate::state::Session;
 use crate::state::Terms;
 use crate::terms::next_tail;
 use crate::terms::next_terms;
+use crate::wide::narrowed;
+use crate::wide::widen;
 use exact::Scaled;
 
 // What an add changes.
@@ -15,43 +20,26 @@ pub struct Progress {
     pub d: Scaled,
 }
 
-// One term more on both sides: from order n + 1 to n + 2.
-fn one_more(s: Session, p: Progress, n: u32) -> Progress
-    requires { ⌜ (Begun s) × (n < 4096) × (p ≡ progress (encounter s) n) ⌝ }
-    ensures { λ r. ⌜ r ≡ progress (encounter s) (n + 1) ⌝ }
-{
-    let lower = s.lower;
-    let upper = s.upper;
-    let below = next_terms(false, lower.letters, p.lower, n);
-    let above = next_terms(true, upper.letters, p.upper, n);
-    let d = next_tail(s.M, p.d, n + 1);
-    Progress {
-        lower: below,
-        upper: above,
-        d,
-    }
-}
-
 // `count` terms more.
 pub fn advance(s: Session, count: u32) -> Progress
     requires { ⌜ (Begun s) × (s .N + count ≤ 4096) ⌝ }
     ensures { λ r. ⌜ r ≡ progress (encounter s) (s .N + count - 1) ⌝ }
 {
-    let lower = s.lower;
-    let upper = s.upper;
-    let first = lower.terms;
-    let second = upper.terms;
-    let d = s.d;
-    let mut p = Progress {
-        lower: first,
-        upper: second,
-        d,
-    };
-    let limit = s.N + count - 1;
-    let mut n = s.N - 1;
+    let below = s.lower;
+    let above = s.upper;
+    let l = letter_pairs(below.letters, above.letters);
+    let M = widen(s.M);
+    let mut t = term_pairs(below.terms, above.terms);
+    let mut d = widen(s.d);
+    let limit = (s.N + count - 1) as u64;
+    let mut n = (s.N - 1) as u64;
     while n < limit {
-        p = one_more(s, p, n);
+        t = next_terms(l, t, n);
+        d = next_tail(M, d, n + 1);
         n += 1;
     }
-    p
+    let lower = side_terms(false, t);
+    let upper = side_terms(true, t);
+    let d = narrowed(d);
+    Progress { lower, upper, d }
 }

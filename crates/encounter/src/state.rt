@@ -2,6 +2,7 @@
 use exact::Scaled;
 
 // A side's letters.
+#[repr(C)]
 pub struct Letters {
     pub u: Scaled,
     pub h: Scaled,
@@ -11,6 +12,7 @@ pub struct Letters {
 }
 
 // A side's c, p, v and y at N - 1, and its sum of c(0) to c(N - 1).
+#[repr(C)]
 pub struct Terms {
     pub c: Scaled,
     pub p: Scaled,
@@ -20,6 +22,7 @@ pub struct Terms {
 }
 
 // What a side keeps: its letters, its exponential sum and its terms.
+#[repr(C)]
 pub struct Side {
     pub letters: Letters,
     pub exponential: Scaled,
@@ -27,6 +30,7 @@ pub struct Side {
 }
 
 // The five inputs, the order N (0 where no encounter was begun), both sides, the upper r(256), M, and the upper d(N).
+#[repr(C)]
 pub struct Session {
     pub R: u32,
     pub sx: u32,

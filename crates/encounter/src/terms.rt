@@ -1,27 +1,35 @@
-// One side's terms, and the upper tail term d.
+// The terms of both sides, and the upper tail term d.
 ghost use mathlib.Core.Path.{_≡_};
-ghost use mathlib.Core.Bool.{true};
+ghost use mathlib.Core.Bool.{Bool, true};
 ghost use Prim.Native.Nat.{suc, _+_, _*_, _^_, _≤_, _<_};
 ghost use Rattle.exact.specs.Scaled.{value, InRange};
 ghost use Rattle.exact.specs.Rounding.{round};
 ghost use Rattle.exact.specs.Steps.{add, mul, div, first, next-c, next, next-d};
 ghost use Rattle.exact.specs.Ranges.{Letters-in, Terms-in};
-ghost use Rattle.encounter.specs.Session.{step-letters, step-terms, held-terms};
-use crate::arithmetic::halved;
-use crate::arithmetic::over;
-use crate::arithmetic::product;
-use crate::arithmetic::sum;
+ghost use Rattle.encounter.specs.Session.{step-letters, held-terms};
+ghost use Rattle.encounter.specs.Wide.{narrow, side-of, letters-of, terms-of};
+use crate::arithmetic;
+use crate::sides::LetterPairs;
+use crate::sides::Pair;
+use crate::sides::TermPairs;
+use crate::sides::halves;
+use crate::sides::overs;
+use crate::sides::products;
+use crate::sides::sums;
 use crate::state::Letters;
 use crate::state::Terms;
+use crate::wide::Wide;
+use crate::wide::over;
+use crate::wide::product;
 use exact::Scaled;
 
-// The terms of index 0.
+// A side's terms of index 0.
 pub fn first_terms(up: bool, l: Letters, start: Scaled) -> Terms
     requires { ⌜ (Letters-in (step-letters l)) × (InRange 32 177 start) ⌝ }
     ensures { λ r. ⌜ r ≡ held-terms (first value (round up 32) (step-letters l) start) ⌝ }
 {
     let u = l.u;
-    let p = product(up, u, start);
+    let p = arithmetic::product(up, u, start);
     Terms {
         c: start,
         p,
@@ -32,64 +40,58 @@ pub fn first_terms(up: bool, l: Letters, start: Scaled) -> Terms
 }
 
 // c(n + 1), where hv is h × v(n).
-fn next_term(up: bool, l: Letters, s: Terms, hv: Scaled, n: u32) -> Scaled
-    requires { ⌜ (n < 4096) × (Letters-in (step-letters l)) × (Terms-in (2 ^ 22) (step-terms s)) × (hv ≡ mul value (round up 32) (l .h) (s .v)) ⌝ }
-    ensures { λ r. ⌜ r ≡ next-c value (round up 32) (step-letters l) n (step-terms s) ⌝ }
+fn next_term(l: LetterPairs, s: TermPairs, hv: Pair, n: u64) -> Pair
+    requires { ⌜ (n < 4096) × ((up : Bool) → Letters-in (letters-of up l)) × ((up : Bool) → Terms-in (2 ^ 22) (terms-of up s)) × ((up : Bool) → side-of up hv ≡ mul value (round up 32) (side-of up (l .h)) (side-of up (s .v))) ⌝ }
+    ensures { λ r. ⌜ ((up : Bool) → side-of up r ≡ next-c value (round up 32) (letters-of up l) n (terms-of up s)) ⌝ }
 {
     let p = s.p;
     let X = l.X;
     let y = s.y;
     let Y = l.Y;
     let c = s.c;
-    let a = sum(up, p, halved(hv));
-    let b = sum(up, a, product(up, X, y));
-    let all = sum(up, b, product(up, Y, c));
-    over(up, all, (n + 1) * (n + 2))
+    let a = sums(p, halves(hv));
+    let b = sums(a, products(X, y));
+    let all = sums(b, products(Y, c));
+    overs(all, (n + 1) * (n + 2))
 }
 
 // p(n + 1), where c is c(n + 1) and p is p(n).
-fn next_product(up: bool, u: Scaled, c: Scaled, p: Scaled, n: u32) -> Scaled
-    requires { ⌜ (n < 4096) × (InRange 32 177 u) × (InRange 32 (2 ^ 23) c) × (InRange 32 (2 ^ 22) p) ⌝ }
-    ensures { λ r. ⌜ r ≡ mul value (round up 32) u (add value (round up 32) c (div value (round up 32) p (suc (suc n)))) ⌝ }
+fn next_product(u: Pair, c: Pair, p: Pair, n: u64) -> Pair
+    requires { ⌜ (n < 4096) × ((up : Bool) → InRange 32 177 (side-of up u)) × ((up : Bool) → InRange 32 (2 ^ 23) (side-of up c)) × ((up : Bool) → InRange 32 (2 ^ 22) (side-of up p)) ⌝ }
+    ensures { λ r. ⌜ ((up : Bool) → side-of up r ≡ mul value (round up 32) (side-of up u) (add value (round up 32) (side-of up c) (div value (round up 32) (side-of up p) (suc (suc n))))) ⌝ }
 {
-    product(up, u, sum(up, c, over(up, p, n + 2)))
+    products(u, sums(c, overs(p, n + 2)))
 }
 
 // x + hx / (n + 2): v(n + 1) from c(n + 1) and h × v(n), and y(n + 1) from v(n + 1) and h × y(n).
-fn next_weighted(up: bool, x: Scaled, hx: Scaled, n: u32) -> Scaled
-    requires { ⌜ (n < 4096) × (InRange 32 (2 ^ 23) x) × (InRange 32 (2 ^ 23) hx) ⌝ }
-    ensures { λ r. ⌜ r ≡ add value (round up 32) x (div value (round up 32) hx (suc (suc n))) ⌝ }
+fn next_weighted(x: Pair, hx: Pair, n: u64) -> Pair
+    requires { ⌜ (n < 4096) × ((up : Bool) → InRange 32 (2 ^ 23) (side-of up x)) × ((up : Bool) → InRange 32 (2 ^ 23) (side-of up hx)) ⌝ }
+    ensures { λ r. ⌜ ((up : Bool) → side-of up r ≡ add value (round up 32) (side-of up x) (div value (round up 32) (side-of up hx) (suc (suc n)))) ⌝ }
 {
-    sum(up, x, over(up, hx, n + 2))
+    sums(x, overs(hx, n + 2))
 }
 
 // The terms of index n + 1 from those of index n.
-pub fn next_terms(up: bool, l: Letters, s: Terms, n: u32) -> Terms
-    requires { ⌜ (n < 4096) × (Letters-in (step-letters l)) × (Terms-in (2 ^ 22) (step-terms s)) ⌝ }
-    ensures { λ r. ⌜ r ≡ held-terms (next value (round up 32) (step-letters l) n (step-terms s)) ⌝ }
+pub fn next_terms(l: LetterPairs, s: TermPairs, n: u64) -> TermPairs
+    requires { ⌜ (n < 4096) × ((up : Bool) → Letters-in (letters-of up l)) × ((up : Bool) → Terms-in (2 ^ 22) (terms-of up s)) ⌝ }
+    ensures { λ r. ⌜ ((up : Bool) → terms-of up r ≡ next value (round up 32) (letters-of up l) n (terms-of up s)) ⌝ }
 {
     let u = l.u;
     let h = l.h;
-    let hv = product(up, h, s.v);
-    let hy = product(up, h, s.y);
-    let c = next_term(up, l, s, hv, n);
-    let p = next_product(up, u, c, s.p, n);
-    let v = next_weighted(up, c, hv, n);
-    let y = next_weighted(up, v, hy, n);
-    let total = sum(up, s.sum, c);
-    Terms {
-        c,
-        p,
-        v,
-        y,
-        sum: total,
-    }
+    let hv = products(h, s.v);
+    let hy = products(h, s.y);
+    let c = next_term(l, s, hv, n);
+    let p = next_product(u, c, s.p, n);
+    let v = next_weighted(c, hv, n);
+    let y = next_weighted(v, hy, n);
+    let sum = sums(s.sum, c);
+    TermPairs { c, p, v, y, sum }
 }
 
 // d(n + 1) from d(n).
-pub fn next_tail(M: Scaled, d: Scaled, n: u32) -> Scaled
-    requires { ⌜ (n ≤ 4096) × (InRange 32 400 M) × (InRange 32 (2 ^ 22) d) ⌝ }
-    ensures { λ r. ⌜ r ≡ next-d value (round true 32) M n d ⌝ }
+pub fn next_tail(M: Wide, d: Wide, n: u64) -> Wide
+    requires { ⌜ (n ≤ 4096) × (InRange 32 400 (narrow M)) × (InRange 32 (2 ^ 22) (narrow d)) ⌝ }
+    ensures { λ r. ⌜ narrow r ≡ next-d value (round true 32) (narrow M) n (narrow d) ⌝ }
 {
     over(true, product(true, d, M), n + 2)
 }

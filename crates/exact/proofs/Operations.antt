@@ -51,41 +51,48 @@ product-packs up b x y bp n n' =
     (let one : 1 ≤ y .m = omega (arith, n' .low, pow-pos b) in omega (arith, n .low, mul-le-mul-left (x .m) one))
     (omega (arith, ap (λ (z : ℕ). x .m * y .m * z) (simp (pow-add 2) at (powers (bal-add (x .e) (y .e))))))
 
+-- the same, its last w bits cut off
+pub product-high-packs : (up : Bool) (b w : ℕ) (x y : Scaled) → 0 < b → 2 ^ b ≤ 2 * (x .m * y .m / 2 ^ w)
+    → Packed up b (value x ⊗ value y) (x .m * y .m / 2 ^ w) (x .e +ℤ y .e +ℤ pos w) (ltb 0 (x .m * y .m % 2 ^ w))
+product-high-packs up b w x y bp l = quotient-packs up b (value x ⊗ value y) (x .m * y .m) (2 ^ w) e bp (pow-pos w) l is
+  where
+    e : ℤ
+    e = x .e +ℤ y .e +ℤ pos w
+
+    bal : posPart (x .e) + posPart (y .e) + w + negPart e ≡ posPart e + negPart (x .e) + negPart (y .e)
+    bal = omega (arith, bal-add (x .e) (y .e), bal-add (x .e +ℤ y .e) (pos w))
+
+    powers-are : 2 ^ posPart (x .e) * 2 ^ posPart (y .e) * 2 ^ w * 2 ^ negPart e ≡ 2 ^ posPart e * 2 ^ negPart (x .e) * 2 ^ negPart (y .e)
+    powers-are = simp (pow-add 2) at (powers bal)
+
+    is : (value x ⊗ value y) .num * (2 ^ w * 2 ^ negPart e) ≡ x .m * y .m * 2 ^ posPart e * (value x ⊗ value y) .den
+    is = unfold value _⊗_ in omega (arith, ap (λ (z : ℕ). x .m * y .m * z) powers-are)
+
 pub product-none : (up : Bool) (b : ℕ) (x y : Scaled) → x .m * y .m ≡ 0 → round up b (value x ⊗ value y) ≡ nought
 product-none up b x y z = zero-round up b (value x ⊗ value y) (unfold value _⊗_ in omega (arith, ap (λ (n : ℕ). n * (2 ^ posPart (x .e) * 2 ^ posPart (y .e))) z))
 
--- the sum, x's exponent g above y's: y's mantissa is with-exponent g bits down below x's, both followed by w zeros
-pub sum-packs : (up : Bool) (b w : ℕ) (x y : Scaled) (g : ℕ) → 0 < b → Normal b x → x .e ≡ y .e +ℤ pos g
-    → Packed up b (value x ⊕ value y) (x .m * 2 ^ w + y .m * 2 ^ w / 2 ^ g) (x .e -ℤ pos w) (ltb 0 (y .m * 2 ^ w % 2 ^ g))
-sum-packs up b w x y g bp n e =
+-- the sum, x's exponent g above y's: y's mantissa is g bits down from x's
+pub sum-packs : (up : Bool) (b : ℕ) (x y : Scaled) (g : ℕ) → 0 < b → Normal b x → x .e ≡ y .e +ℤ pos g
+    → Packed up b (value x ⊕ value y) (x .m + y .m / 2 ^ g) (x .e) (ltb 0 (y .m % 2 ^ g))
+sum-packs up b x y g bp n e =
     rw (← quotient-is, ← rest-is)
-    (quotient-packs up b (value x ⊕ value y) (x .m * 2 ^ w * 2 ^ g + y .m * 2 ^ w) (2 ^ g) (x .e -ℤ pos w) bp (pow-pos g)
-    (rw quotient-is (omega (arith, n .low, mul-le-mul-left (x .m) (pow-pos w)))) is)
+    (quotient-packs up b (value x ⊕ value y) (x .m * 2 ^ g + y .m) (2 ^ g) (x .e) bp (pow-pos g)
+    (rw quotient-is (omega (arith, n .low))) is)
   where
-    quotient-is : (x .m * 2 ^ w * 2 ^ g + y .m * 2 ^ w) / 2 ^ g ≡ x .m * 2 ^ w + y .m * 2 ^ w / 2 ^ g
-    quotient-is = mul-add-div-right (pow-pos g) (x .m * 2 ^ w) (y .m * 2 ^ w)
+    quotient-is : (x .m * 2 ^ g + y .m) / 2 ^ g ≡ x .m + y .m / 2 ^ g
+    quotient-is = mul-add-div-right (pow-pos g) (x .m) (y .m)
 
-    rest-is : (x .m * 2 ^ w * 2 ^ g + y .m * 2 ^ w) % 2 ^ g ≡ y .m * 2 ^ w % 2 ^ g
-    rest-is = mul-add-mod-self-right (x .m * 2 ^ w) (2 ^ g) (y .m * 2 ^ w)
+    rest-is : (x .m * 2 ^ g + y .m) % 2 ^ g ≡ y .m % 2 ^ g
+    rest-is = mul-add-mod-self-right (x .m) (2 ^ g) (y .m)
 
     bal : posPart (x .e) + negPart (y .e) ≡ posPart (y .e) + g + negPart (x .e)
     bal = rw e (omega (arith, bal-add (y .e) (pos g)))
 
-    bal-x : 2 ^ posPart (x .e -ℤ pos w) * (2 ^ negPart (x .e) * 2 ^ w) ≡ 2 ^ posPart (x .e) * 2 ^ 0 * 2 ^ negPart (x .e -ℤ pos w)
-    bal-x = simp (pow-add 2) at (powers (bal-diff (x .e) (pos w)))
-
     bal-y : 2 ^ posPart (x .e) * 2 ^ negPart (y .e) ≡ 2 ^ posPart (y .e) * 2 ^ g * 2 ^ negPart (x .e)
     bal-y = simp (pow-add 2) at (powers bal)
 
-    is : (value x ⊕ value y) .num * (2 ^ g * 2 ^ negPart (x .e -ℤ pos w)) ≡ (x .m * 2 ^ w * 2 ^ g + y .m * 2 ^ w) * 2 ^ posPart (x .e -ℤ pos w) * (value x ⊕ value y) .den
-    is =
-        unfold value _⊕_ in
-        omega (
-          arith,
-          ap (λ (z : ℕ). x .m * (2 ^ g * 2 ^ negPart (y .e)) * z) bal-x,
-          ap (λ (z : ℕ). y .m * 2 ^ negPart (y .e) * z) bal-x,
-          ap (λ (z : ℕ). y .m * 2 ^ negPart (x .e -ℤ pos w) * z) bal-y,
-        )
+    is : (value x ⊕ value y) .num * (2 ^ g * 2 ^ negPart (x .e)) ≡ (x .m * 2 ^ g + y .m) * 2 ^ posPart (x .e) * (value x ⊕ value y) .den
+    is = unfold value _⊕_ in omega (arith, ap (λ (z : ℕ). y .m * 2 ^ negPart (x .e) * z) bal-y)
 
 pub sum-none : (up : Bool) (b : ℕ) (x y : Scaled) → 0 < b → IsScaled b x → y .m ≡ 0 → round up b (value x ⊕ value y) ≡ x
 sum-none up b x y bp n z = round-exact up b bp n (unfold value _⊕_ in record { eq = rw z (omega arith) })
@@ -93,19 +100,19 @@ sum-none up b x y bp n z = round-exact up b bp n (unfold value _⊕_ in record {
 pub sum-comm : (up : Bool) (b : ℕ) (x y : Scaled) → 0 < b → round up b (value x ⊕ value y) ≡ round up b (value y ⊕ value x)
 sum-comm up b x y bp = round-cong up b bp (add-comm (value x) (value y))
 
--- a mantissa of b bits, followed by b zeros and divided by at most 2^b, has b bits or more
-pub wide : (b m k : ℕ) → 0 < k → k ≤ 2 ^ b → 2 ^ b ≤ 2 * m → 2 ^ b ≤ 2 * (m * 2 ^ b / k)
-wide b m k kp kl l = let r : m ≤ m * 2 ^ b / k = le-div-iff-mul-le kp .1 (mul-le-mul-left m kl) in omega arith
+-- a mantissa of b bits, followed by w zeros and divided by at most 2^w, has b bits or more
+pub wide : (b w m k : ℕ) → 0 < k → k ≤ 2 ^ w → 2 ^ b ≤ 2 * m → 2 ^ b ≤ 2 * (m * 2 ^ w / k)
+wide b w m k kp kl l = let r : m ≤ m * 2 ^ w / k = le-div-iff-mul-le kp .1 (mul-le-mul-left m kl) in omega arith
 
 -- the quotient by a whole number
-pub over-packs : (up : Bool) (b : ℕ) (x : Scaled) (k : ℕ) → 0 < b → Normal b x → 0 < k → k ≤ 2 ^ b
-    → Packed up b (value x ÷ k) (x .m * 2 ^ b / k) (x .e -ℤ pos b) (ltb 0 (x .m * 2 ^ b % k))
-over-packs up b x k bp n kp kl = quotient-packs up b (value x ÷ k) (x .m * 2 ^ b) k (x .e -ℤ pos b) bp kp (wide b (x .m) k kp kl (n .low)) is
+pub over-packs : (up : Bool) (b w : ℕ) (x : Scaled) (k : ℕ) → 0 < b → Normal b x → 0 < k → k ≤ 2 ^ w
+    → Packed up b (value x ÷ k) (x .m * 2 ^ w / k) (x .e -ℤ pos w) (ltb 0 (x .m * 2 ^ w % k))
+over-packs up b w x k bp n kp kl = quotient-packs up b (value x ÷ k) (x .m * 2 ^ w) k (x .e -ℤ pos w) bp kp (wide b w (x .m) k kp kl (n .low)) is
   where
-    bal : 2 ^ posPart (x .e -ℤ pos b) * (2 ^ negPart (x .e) * 2 ^ b) ≡ 2 ^ posPart (x .e) * 2 ^ 0 * 2 ^ negPart (x .e -ℤ pos b)
-    bal = simp (pow-add 2) at (powers (bal-diff (x .e) (pos b)))
+    bal : 2 ^ posPart (x .e -ℤ pos w) * (2 ^ negPart (x .e) * 2 ^ w) ≡ 2 ^ posPart (x .e) * 2 ^ 0 * 2 ^ negPart (x .e -ℤ pos w)
+    bal = simp (pow-add 2) at (powers (bal-diff (x .e) (pos w)))
 
-    is : (value x ÷ k) .num * (k * 2 ^ negPart (x .e -ℤ pos b)) ≡ x .m * 2 ^ b * 2 ^ posPart (x .e -ℤ pos b) * (value x ÷ k) .den
+    is : (value x ÷ k) .num * (k * 2 ^ negPart (x .e -ℤ pos w)) ≡ x .m * 2 ^ w * 2 ^ posPart (x .e -ℤ pos w) * (value x ÷ k) .den
     is = unfold value _÷_ in rw (suc-pred-eq-of-pos kp) (omega (arith, ap (λ (z : ℕ). x .m * k * z) bal))
 
 pub over-none : (up : Bool) (b : ℕ) (x : Scaled) (k : ℕ) → x .m ≡ 0 → round up b (value x ÷ k) ≡ nought
@@ -114,7 +121,7 @@ over-none up b x k z = zero-round up b (value x ÷ k) (unfold value _÷_ in rw z
 -- the quotient of two scaled numbers
 pub per-packs : (up : Bool) (b : ℕ) (x y : Scaled) → 0 < b → Normal b x → Normal b y
     → Packed up b (value x ⊘ value y) (x .m * 2 ^ b / y .m) (x .e -ℤ y .e -ℤ pos b) (ltb 0 (x .m * 2 ^ b % y .m))
-per-packs up b x y bp n n' = quotient-packs up b (value x ⊘ value y) (x .m * 2 ^ b) (y .m) e bp yp (wide b (x .m) (y .m) yp (omega (arith, n' .high)) (n .low)) is
+per-packs up b x y bp n n' = quotient-packs up b (value x ⊘ value y) (x .m * 2 ^ b) (y .m) e bp yp (wide b b (x .m) (y .m) yp (omega (arith, n' .high)) (n .low)) is
   where
     e : ℤ
     e = x .e -ℤ y .e -ℤ pos b

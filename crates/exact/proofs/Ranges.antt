@@ -3,7 +3,7 @@ use mathlib.Core.Path.{_≡_, refl, ap}
 use mathlib.Core.Bool.{Bool, true, false, cond, _&&_}
 use mathlib.Core.Logic.{inl, inr, ⊎-elim}
 use Prim.Native.Nat.{ℕ, zero, suc, _+_, _-_, _*_, _/_, _%_, _^_, _≤_, _<_, zero-le}
-use native.Mathlib.Nat.{le-trans, lt-of-le-of-lt, lt-of-lt-of-le, mul-le-mul-left, div-le-self, mul-one, eq-zero-or-pos, le-of-lt, zero-mul, mul-zero, suc-pred-eq-of-pos}
+use native.Mathlib.Nat.{le-trans, lt-of-le-of-lt, lt-of-lt-of-le, mul-le-mul-left, div-le-self, eq-zero-or-pos, le-of-lt, zero-mul, mul-zero, suc-pred-eq-of-pos}
 use native.Mathlib.Numerals.{add-one}
 use native.Mathlib.Omega.{arith}
 use lib.Dec.{ltb, eqb}
@@ -12,7 +12,7 @@ use lib.IntN.{ℤ, pos, subℕ, _+ℤ_, _-ℤ_}
 use lib.Pow.{pow-pos, pow-mono, shl-lt, add-lt-pow}
 use lib.Ieee.{size}
 use lib.Ieee.Digits.{size-le}
-use mir.Syntax.{w32}
+use mir.Syntax.{w32, w64}
 use mir.Val.{SFits}
 use Rattle.exact.specs.declared.Scaled.{Scaled}
 use Rattle.exact.specs.Integer.{posPart, negPart}
@@ -65,9 +65,12 @@ nought-range b B = record { is-scaled = inl refl; above = zero-le; below = zero-
 pub widen : {b A B : ℕ} {x : Scaled} → A ≤ B → InRange b A x → InRange b B x
 widen l h = record { is-scaled = h .is-scaled; above = le-trans (h .above) l; below = le-trans (h .below) l }
 
--- an exponent in range fits an i32
+-- an exponent in range fits an i32, and an i64
 pub in-fits : {b : ℕ} {x : Scaled} → InRange b (2 ^ 28) x → SFits w32 (x .e)
 in-fits {x = x} h = fits (x .e) (omega (arith, h .above)) (omega (arith, h .below))
+
+pub in-fits-64 : {b : ℕ} {x : Scaled} → InRange b (2 ^ 28) x → SFits w64 (x .e)
+in-fits-64 {x = x} h = fits (x .e) (omega (arith, h .above)) (omega (arith, h .below))
 
 mantissa : {x : Scaled} → x ≡ nought → x .m ≡ 0
 mantissa e = ap (λ (y : Scaled). y .m) e
@@ -91,10 +94,10 @@ module _ (up : Bool) (b : ℕ) (bp : 0 < b) where
   -- with the larger exponent first
   ordered : {A : ℕ} {x y : Scaled} (g : ℕ) → InRange b A x → Normal b x → Normal b y → x .e ≡ y .e +ℤ pos g → InRange b (A + 1 + 1) (round up b (value x ⊕ value y))
   ordered {A} {x} {y} g h n n' e =
-      packed-range 1 (A + 1) bp (sum-packs up b 0 x y g bp n e)
-      (rw (mul-one (x .m), mul-one (y .m)) (lt-of-le-of-lt (sums (div-le-self (y .m) (2 ^ g))) (rw (add-one b) (add-lt-pow b (n .high) (n' .high)))))
-      (omega (arith, h .above, pos-add (x .e -ℤ pos 0) (pos 1), pos-diff (x .e) (pos 0), neg-diff (x .e) (pos 0)))
-      (omega (arith, h .below, neg-diff (x .e) (pos 0)))
+      packed-range 1 (A + 1) bp (sum-packs up b x y g bp n e)
+      (lt-of-le-of-lt (sums (div-le-self (y .m) (2 ^ g))) (rw (add-one b) (add-lt-pow b (n .high) (n' .high))))
+      (omega (arith, h .above, pos-add (x .e) (pos 1)))
+      (omega (arith, h .below))
     where
       sums : {z : ℕ} → z ≤ y .m → x .m + z ≤ x .m + y .m
       sums l = omega arith
@@ -117,7 +120,7 @@ module _ (up : Bool) (b : ℕ) (bp : 0 < b) where
       go : IsScaled b x → InRange b (A + b + 1) (round up b (value x ÷ k))
       go (inl z) = rw (over-none up b x k (mantissa z)) (nought-range b (A + b + 1))
       go (inr n) =
-          packed-range b (A + b) bp (over-packs up b x k bp n kp kl) (lt-of-le-of-lt (div-le-self (x .m * 2 ^ b) k) (shl-lt b b (n .high)))
+          packed-range b (A + b) bp (over-packs up b b x k bp n kp kl) (lt-of-le-of-lt (div-le-self (x .m * 2 ^ b) k) (shl-lt b b (n .high)))
           (omega (arith, h .above, pos-add (x .e -ℤ pos b) (pos b), pos-diff (x .e) (pos b), neg-diff (x .e) (pos b)))
           (omega (arith, h .below, neg-diff (x .e) (pos b)))
 

@@ -1,4 +1,4 @@
--- i32 values: which integers fit, and how the code's tests and conversions read them.
+-- Signed values: which integers fit, and how the code's tests and conversions read them. The laws with no width in their names are about an i32.
 use mathlib.Core.Path.{_≡_, refl, sym, subst}
 use mathlib.Core.Bool.{true, false}
 use Prim.Native.Nat.{ℕ, _+_, _^_, _≤_, _<_, zero-le}
@@ -8,7 +8,7 @@ use lib.Dec.{T, ltb→lt}
 use lib.IntN.{ℤ, pos, negsuc, _+ℤ_, _-ℤ_, natAbs}
 use lib.Signed.{mag, ltZ, nonNeg}
 use borrow.Author.Tests.{lt-ltb}
-use mir.Syntax.{Width, w32}
+use mir.Syntax.{Width, w32, w64}
 use mir.Facts.{toZ-ofZ}
 use mir.Val.{SFits, hbits, toZ, ofZ}
 use Rattle.exact.specs.Integer.{posPart, negPart}
@@ -26,19 +26,36 @@ pub neg-fits : {w : Width} {z : ℤ} → SFits w z → negPart z ≤ 2 ^ hbits w
 neg-fits {z = pos n} h = zero-le
 neg-fits {z = negsuc n} h = h .sfits
 
+-- what fits an i32 fits an i64
+pub longer : {z : ℤ} → SFits w32 z → SFits w64 z
+longer {z} h = fits z (omega (arith, pos-fits h)) (omega (arith, neg-fits h))
+
+module _ (w : Width) where
+  pub sum-fits-in : (a b : ℤ) → posPart a + posPart b < 2 ^ hbits w → negPart a + negPart b ≤ 2 ^ hbits w → SFits w (a +ℤ b)
+  sum-fits-in a b h k = fits (a +ℤ b) (omega (arith, pos-add a b)) (omega (arith, neg-add a b))
+
+  pub diff-fits-in : (a b : ℤ) → posPart a + negPart b < 2 ^ hbits w → negPart a + posPart b ≤ 2 ^ hbits w → SFits w (a -ℤ b)
+  diff-fits-in a b h k = fits (a -ℤ b) (omega (arith, pos-diff a b)) (omega (arith, neg-diff a b))
+
+  -- a number that a call returned is read back from its bits
+  pub back-in : (z : ℤ) → mag z < 2 ^ hbits w → toZ w (ofZ w z) ≡ z
+  back-in z h = toZ-ofZ {w = w} (record { sfits = h })
+
+  -- an unsigned number below half of the range, read as a signed one
+  pub small-in : (t : ℕ) → t < 2 ^ hbits w → toZ w t ≡ pos t
+  small-in t h = rw (lt-ltb t (2 ^ hbits w) h)
+
 pub sum-fits : (a b : ℤ) → posPart a + posPart b < 2 ^ 31 → negPart a + negPart b ≤ 2 ^ 31 → SFits w32 (a +ℤ b)
-sum-fits a b h k = fits (a +ℤ b) (omega (arith, pos-add a b)) (omega (arith, neg-add a b))
+sum-fits = sum-fits-in w32
 
 pub diff-fits : (a b : ℤ) → posPart a + negPart b < 2 ^ 31 → negPart a + posPart b ≤ 2 ^ 31 → SFits w32 (a -ℤ b)
-diff-fits a b h k = fits (a -ℤ b) (omega (arith, pos-diff a b)) (omega (arith, neg-diff a b))
+diff-fits = diff-fits-in w32
 
--- an i32 that a call returned is read back from its bits
 pub back : (z : ℤ) → mag z < 2 ^ 31 → toZ w32 (ofZ w32 z) ≡ z
-back z h = toZ-ofZ {w = w32} (record { sfits = h })
+back = back-in w32
 
--- an unsigned number below 2^31, read as an i32
 pub small : (t : ℕ) → t < 2 ^ 31 → toZ w32 t ≡ pos t
-small t h = rw (lt-ltb t (2 ^ 31) h)
+small = small-in w32
 
 -- tests of a sign
 pub negative : (z : ℤ) → ltZ z (pos 0) ≡ true → 0 ≡ posPart z

@@ -9,6 +9,7 @@ ghost use Rattle.exact.specs.Scaled.{value};
 ghost use Rattle.exact.specs.Rounding.{round};
 
 // m × 2^e: "e is a signed 32-bit number."
+#[repr(C)]
 pub struct Scaled {
     pub m: u32,
     pub e: i32,

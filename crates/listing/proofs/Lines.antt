@@ -2,7 +2,7 @@
 use mathlib.Core.Path.{_≡_, refl, sym, _∙_, ap, subst}
 use mathlib.Core.Bool.{Bool, true, false, cond}
 use mathlib.Core.List.{List, [], _++_, append-assoc}
-use Prim.Native.Nat.{ℕ, zero, suc, _+_, _-_, _≤_, _<_}
+use Prim.Native.Nat.{ℕ, zero, suc, _+_, _-_, _*_, _≤_, _<_}
 use native.Mathlib.Omega.{arith}
 use borrow.Author.Tests.{lt-ltb, le-ltb, eq-eqb, ne-eqb}
 use lib.Dec.{ltb, eqb, T}
@@ -113,11 +113,12 @@ pub record Going (l : List ℕ) (i₀ : ℕ) (s₀ : Session) (before out : List
   pub rest : drop used out ≡ drop used before
   pub same-length : length out ≡ length before
   pub from : i₀ ≤ i
+  pub few : used + 89 * i₀ ≤ 89 * i
   pub some : 0 < used → i₀ < i
 
 pub going-start : (l : List ℕ) (i : ℕ) (s : Session) (out : List ℕ) → Reached s → Going l i s out out 0 i s
 going-start l i s out h =
-    record { written = none; is = refl; reached = h; within = omega arith; rest = refl; same-length = refl; from = omega arith; some = λ n. absurd (omega arith) }
+    record { written = none; is = refl; reached = h; within = omega arith; rest = refl; same-length = refl; from = omega arith; few = omega arith; some = λ n. absurd (omega arith) }
 
 -- one line more
 module _ (l : List ℕ) (i₀ : ℕ) (s₀ : Session) (before out out′ : List ℕ) (used i end : ℕ) (s : Session) (t : Taken) where
@@ -149,14 +150,14 @@ module _ (l : List ℕ) (i₀ : ℕ) (s₀ : Session) (before out out′ : List 
       past : drop end out′ ≡ drop end before
       past = p .rest ∙ rw (p .ends) (dropped out before used (length (line i (getD l i 0) (t .recorded .answer))) (g .rest))
 
-      pub going-on : final (t .recorded .answer) ≡ false → Reached (t .session) → Going l i₀ s₀ before out′ end (t .recorded .next) (t .session)
-      going-on f r =
+      pub going-on : final (t .recorded .answer) ≡ false → Reached (t .session) → end ≤ used + 89 → Going l i₀ s₀ before out′ end (t .recorded .next) (t .session)
+      going-on f r short =
           let m = next-is l i s t e f in
-          record { written = longer; is = rw f at text; reached = r; within = fits; rest = past; same-length = p .same ∙ g .same-length; from = omega (arith, g .from); some = λ n. omega (arith, g .from) }
+          record { written = longer; is = rw f at text; reached = r; within = fits; rest = past; same-length = p .same ∙ g .same-length; from = omega (arith, g .from); few = omega (arith, g .few); some = λ n. omega (arith, g .from) }
 
       pub going-stop : final (t .recorded .answer) ≡ true → Reached (t .session) → PieceOf l i₀ s₀ before out′ (record { used = end; next = t .recorded .next; session = t .session; ended = true })
       going-stop f r =
-          record { written = longer; is = rw f at text; on = λ n z. absurd (subst T z tt); left = λ z. absurd (subst T z tt); reached = r; within = fits; rest = past; same = p .same ∙ g .same-length }
+          record { written = longer; is = rw f at text; on = λ n z. absurd (subst T z tt); left = λ z. absurd (subst T z tt); full = λ z. absurd (subst T z tt); few = λ z. absurd (subst T z tt); reached = r; within = fits; rest = past; same = p .same ∙ g .same-length }
 
 pub going-full :
     (l : List ℕ) (i₀ : ℕ) (s₀ : Session) (before out : List ℕ) (used i : ℕ) (s : Session) →
@@ -165,7 +166,7 @@ pub going-full :
     length out < used + room →
     PieceOf l i₀ s₀ before out (record { used = used; next = i; session = s; ended = false })
 going-full l i₀ s₀ before out used i s g k h =
-    record { written = g .written; is = g .is; on = λ r n. g .some (omega (arith, g .same-length)); left = λ n. k; reached = g .reached; within = g .within; rest = g .rest; same = g .same-length }
+    record { written = g .written; is = g .is; on = λ r n. g .some (omega (arith, g .same-length)); left = λ n. k; full = λ n. omega (arith, g .same-length); few = λ n. g .few; reached = g .reached; within = g .within; rest = g .rest; same = g .same-length }
 
 pub going-end :
     (l : List ℕ) (i₀ : ℕ) (s₀ : Session) (before out : List ℕ) (used i : ℕ) (s : Session) →
@@ -178,6 +179,8 @@ going-end l i₀ s₀ before out used i s g h =
       is = rw (listing-end l i s h) at (g .is);
       on = λ n z. absurd (subst T z tt);
       left = λ z. absurd (subst T z tt);
+      full = λ z. absurd (subst T z tt);
+      few = λ z. absurd (subst T z tt);
       reached = g .reached;
       within = g .within;
       rest = g .rest;

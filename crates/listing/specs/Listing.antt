@@ -2,7 +2,7 @@
 use mathlib.Core.Path.{_≡_}
 use mathlib.Core.Bool.{Bool, false, cond, _||_}
 use mathlib.Core.List.{List, [], _++_}
-use Prim.Native.Nat.{ℕ, zero, suc, _-_, _≤_, _<_}
+use Prim.Native.Nat.{ℕ, zero, suc, _+_, _-_, _*_, _≤_, _<_}
 use lib.Dec.{ltb, eqb}
 use lib.ListN.{length, take, drop, getD}
 use Rattle.encounter.specs.declared.state.Session.{Session}
@@ -47,12 +47,15 @@ pub data Written (l : List ℕ) (i : ℕ) (s : Session) : List ℕ → ℕ → S
       Written l i s (text ++ line j (getD l j 0) (record-call l j t .recorded .answer)) (record-call l j t .recorded .next) (record-call l j t .session)
 
 -- A piece of the listing from position i on: the first bytes of the buffer are the text of its records, and these bytes with the listing from the next
--- position on are the listing. How many records a piece has is left free; where a byte of the script is left, and room for a line, it has one at least.
+-- position on are the listing. It ends before the listing does only where the buffer has no room for another line, and then no line has
+-- more than 89 bytes; where a byte of the script is left, and room for a line, it has one record at least.
 pub record PieceOf (l : List ℕ) (i : ℕ) (s : Session) (before after : List ℕ) (p : Piece) : Type 0 where
   pub written : Written l i s (take (p .used) after) (p .next) (p .session)
   pub is : take (p .used) after ++ cond (p .ended) [] (listing l (p .next) (p .session)) ≡ listing l i s
   pub on : room ≤ length before → p .ended ≡ false → i < p .next
   pub left : p .ended ≡ false → p .next < length l
+  pub full : p .ended ≡ false → length before < p .used + room
+  pub few : p .ended ≡ false → p .used + 89 * i ≤ 89 * p .next
   pub reached : Reached (p .session)
   pub within : p .used ≤ length after
   pub rest : drop (p .used) after ≡ drop (p .used) before

@@ -1,22 +1,23 @@
-use mathlib.Core.Path.{sym}
-use native.Mathlib.Omega.{arith}
-use mir.Facts.{toZ-ofZ}
-use Rattle.exact.proofs.Signed.{back}
-use Rattle.exact.proofs.Order.{exponent-none, exponent-some}
-use Rattle.exact.proofs.Ranges.{in-fits}
+use mathlib.Core.Path.{_∙_, ap}
+use lib.Dec.{lit≤}
+use Rattle.exact.specs.Scaled.{half}
+use Rattle.exact.proofs.Ranges.{widen}
+use Rattle.encounter.proofs.Fitting.{half-of}
+use borrow.Author.Needs.{needs}
 use Rattle.encounter.proofs.arithmetic.halved.Statement.{statement}
 use Rattle.encounter.proofs.arithmetic.halved.Tie as tie
 
+widen-requires : tie.Need-widen-requires
+widen-requires c κs = search needs
+
+halved-requires : tie.Need-halved-requires
+halved-requires c κs = rw (c .widen .ensures) (c .before .pre)
+
+narrowed-requires : tie.Need-narrowed-requires
+narrowed-requires c κs = widen (lit≤ tt) (half-of (c .halved .ensures ∙ ap half (c .before .widen .ensures)) (c .before .before .pre))
+
 returns : tie.Need-returns
-returns c = sym (exponent-none (c .before .before .args .a) _ (c .if1 .taken))
-
-lowered-requires : tie.Need-lowered-requires
-lowered-requires c κs = let z = c .before .before in rw (toZ-ofZ (in-fits (z .pre))) (omega (arith, z .pre .below))
-
-returns-2 : tie.Need-returns-2
-returns-2 c =
-    let z = c .before .before .before in
-    rw (back (c .lowered .result) (c .lowered .ok), c .lowered .ensures, toZ-ofZ (in-fits (z .pre))) (sym (exponent-some (z .args .a) _ (c .before .if1 .left)))
+returns c = c .narrowed .ensures ∙ c .before .halved .ensures ∙ ap half (c .before .before .widen .ensures)
 
 pub halved-spec : {M : Type 1} → statement M
-halved-spec = tie.close (tie.spec returns lowered-requires returns-2)
+halved-spec = tie.close (tie.spec widen-requires halved-requires narrowed-requires returns)

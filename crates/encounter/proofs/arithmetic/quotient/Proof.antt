@@ -45,7 +45,7 @@ pack-any-requires c κs =
     let z = c .before .before .before .before .before .before .before .before in
     let n = normal (z .pre .0 .is-scaled) (c .before .before .before .before .before .before .if1 .left) in
     let d = z .args .a .e -ℤ z .args .b .e in (
-      omega (arith, wide 32 (z .args .a .m) (z .args .b .m) (omega (arith, z .pre .2 .low)) (le-of-lt (z .pre .2 .high)) (n .low)),
+      omega (arith, wide 32 32 (z .args .a .m) (z .args .b .m) (omega (arith, z .pre .2 .low)) (le-of-lt (z .pre .2 .high)) (n .low)),
       rw (back (c .lowered .result) (c .lowered .ok), c .lowered .ensures, back (c .before .minus .result) (c .before .minus .ok), c .before .minus .ensures, toZ-ofZ (in-fits (z .pre .0)), toZ-ofZ (in-fits (z .pre .1)))
           (omega (arith, z .pre .0 .above, z .pre .1 .below, pos-diff d (pos 32), pos-diff (z .args .a .e) (z .args .b .e))),
     )

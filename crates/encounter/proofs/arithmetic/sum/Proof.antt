@@ -1,63 +1,27 @@
-use mathlib.Core.Path.{sym, _∙_}
-use native.Mathlib.Omega.{arith}
-use lib.Dec.{lit<}
-use mir.Facts.{toZ-ofZ}
-use Rattle.exact.proofs.Integers.{gap, gap-above}
-use Rattle.exact.proofs.Signed.{diff-fits}
-use Rattle.exact.proofs.Operations.{normal, sum-none, sum-comm}
-use Rattle.exact.proofs.Ranges.{in-fits}
+use lib.Dec.{lit≤}
+use Rattle.exact.proofs.Ranges.{widen}
+use Rattle.encounter.proofs.Fitting.{sum-of}
 use borrow.Author.Needs.{needs}
 use Rattle.encounter.proofs.arithmetic.sum.Statement.{statement}
 use Rattle.encounter.proofs.arithmetic.sum.Tie as tie
 
+widen-requires : tie.Need-widen-requires
+widen-requires c κs = search needs
+
+widen-requires-2 : tie.Need-widen-requires-2
+widen-requires-2 c κs = search needs
+
+sum-requires : tie.Need-sum-requires
+sum-requires c κs = let z = c .before .before in rw (c .before .widen .ensures, c .widen2 .ensures) (z .pre)
+
+narrowed-requires : tie.Need-narrowed-requires
+narrowed-requires c κs =
+    let z = c .before .before .before in
+    widen (lit≤ tt) (sum-of (z .args .up) (rw (c .before .before .widen .ensures, c .before .widen2 .ensures) at (c .sum .ensures)) (z .pre .0) (z .pre .1))
+
 returns : tie.Need-returns
-returns c = let z = c .before .before in sym (sum-none (z .args .up) 32 (z .args .a) (z .args .b) (lit< tt) (z .pre .0 .is-scaled) (c .if1 .taken))
-
-returns-2 : tie.Need-returns-2
-returns-2 c =
-    let z = c .before .before .before .before in
-    sym (sum-comm (z .args .up) 32 (z .args .a) (z .args .b) (lit< tt) ∙ sum-none (z .args .up) 32 (z .args .b) (z .args .a) (lit< tt) (z .pre .1 .is-scaled) (c .if2 .taken))
-
-gap-requires : tie.Need-gap-requires
-gap-requires c κs =
-    let z = c .before .before .before .before .before .before in
-    rw (toZ-ofZ (in-fits (z .pre .0)), toZ-ofZ (in-fits (z .pre .1))) (diff-fits (z .args .b .e) (z .args .a .e) (omega (arith, z .pre .0 .below, z .pre .1 .above)) (omega (arith, z .pre .0 .above, z .pre .1 .below)))
-
-gap-requires-2 : tie.Need-gap-requires-2
-gap-requires-2 c κs =
-    let z = c .before .before .before .before .before .before .before .before in
-    rw (toZ-ofZ (in-fits (z .pre .0)), toZ-ofZ (in-fits (z .pre .1))) (diff-fits (z .args .a .e) (z .args .b .e) (omega (arith, z .pre .0 .above, z .pre .1 .below)) (omega (arith, z .pre .0 .below, z .pre .1 .above)))
-
-aligned-requires : tie.Need-aligned-requires
-aligned-requires c κs =
-    let z = c .before .before .before .before .before .before .before .before .before in
-    let a = toZ-ofZ (in-fits (z .pre .0)) in
-    let b = toZ-ofZ (in-fits (z .pre .1)) in (
-      z .pre .0,
-      normal (z .pre .0 .is-scaled) (c .before .before .before .before .before .if2 .left),
-      normal (z .pre .1 .is-scaled) (c .before .before .before .before .before .before .before .if1 .left),
-      rw (c .gap2 .ensures, a, b) (gap (z .args .a .e) (z .args .b .e) (sym (rw (b, a) at (c .before .before .gap .ensures)) ∙ c .before .if3 .taken)),
-    )
-
-aligned-requires-2 : tie.Need-aligned-requires-2
-aligned-requires-2 c κs =
-    let z = c .before .before .before .before .before .before .before .before in
-    let g = rw (toZ-ofZ (in-fits (z .pre .1)), toZ-ofZ (in-fits (z .pre .0))) at (c .before .gap .ensures) in (
-      z .pre .1,
-      normal (z .pre .1 .is-scaled) (c .before .before .before .before .before .before .if1 .left),
-      normal (z .pre .0 .is-scaled) (c .before .before .before .before .if2 .left),
-      rw g (gap-above (z .args .a .e) (z .args .b .e) (λ e. c .if3 .left (g ∙ e))),
-    )
-
-returns-3 : tie.Need-returns-3
-returns-3 c = search needs
-
-returns-4 : tie.Need-returns-4
-returns-4 c =
-    let z = c .before .before .before .before .before .before .before .before .before in
-    c .aligned2 .ensures ∙ sum-comm (z .args .up) 32 (z .args .b) (z .args .a) (lit< tt)
+returns c = rw (c .narrowed .ensures, c .before .sum .ensures, c .before .before .before .widen .ensures, c .before .before .widen2 .ensures)
 
 pub sum-spec : {M : Type 1} → statement M
 sum-spec =
-    tie.close
-    (tie.spec returns returns-2 gap-requires gap-requires-2 aligned-requires aligned-requires-2 returns-3 returns-4)
+    tie.close (tie.spec widen-requires widen-requires-2 sum-requires narrowed-requires returns)

@@ -24,7 +24,7 @@ upper-end-requires c κs = let z = c .before .before .before .before .before in 
 classify-requires : tie.Need-classify-requires
 classify-requires c κs =
     let z = c .before .before .before .before .before .before in
-    rw (c .before .lower-end .ensures) (lower-end-fine (z .args .s) (begun (z .args .s) (z .pre) (c .before .before .before .before .if1 .left)))
+    lower-end-fine (z .args .s) (begun (z .args .s) (z .pre) (c .before .before .before .before .if1 .left)) (c .before .lower-end .ensures)
 
 refuse-requires-2 : tie.Need-refuse-requires-2
 refuse-requires-2 c κs = search needs

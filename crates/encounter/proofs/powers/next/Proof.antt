@@ -8,24 +8,27 @@ use borrow.Author.Needs.{needs}
 use Rattle.encounter.proofs.powers.next.Statement.{statement}
 use Rattle.encounter.proofs.powers.next.Tie as tie
 
-product-requires : tie.Need-product-requires
-product-requires c κs = search needs
+products-requires : tie.Need-products-requires
+products-requires c κs = λ up. (widen (lit≤ tt) (c .pre .2 up .r), widen (lit≤ tt) (c .pre .1 up))
 
-add-over : tie.Need-add-over
-add-over c = search needs
+add-overs : tie.Need-add-overs
+add-overs c = search needs
 
-over-requires : tie.Need-over-requires
-over-requires c κs = let z = c .before in (widen (lit≤ tt) (product-of (z .args .up) (c .product .ensures) (z .pre .2 .r) (z .pre .1)), omega arith)
+overs-requires : tie.Need-overs-requires
+overs-requires c κs =
+    let z = c .before in
+    ((λ up. widen (lit≤ tt) (product-of up (c .products .ensures up) (z .pre .2 up .r) (z .pre .1 up))), omega arith, omega (arith, z .pre .0))
 
-sum-requires : tie.Need-sum-requires
-sum-requires c κs =
+sums-requires : tie.Need-sums-requires
+sums-requires c κs =
     let z = c .before .before in
-    let p = product-of (z .args .up) (c .before .product .ensures) (z .pre .2 .r) (z .pre .1) in
-    (widen (lit≤ tt) (z .pre .2 .sum), widen (lit≤ tt) (over-of (z .args .up) _ (c .over .ensures) (omega arith) (omega arith) p))
+    λ up.
+    let p = product-of up (c .before .products .ensures up) (z .pre .2 up .r) (z .pre .1 up) in
+    (widen (lit≤ tt) (z .pre .2 up .sum), widen (lit≤ tt) (over-of up _ (c .overs .ensures up) (omega arith) (omega (arith, z .pre .0)) p))
 
 returns : tie.Need-returns
 unfolding next-power add mul div
-returns c = rw (c .sum .ensures, c .before .over .ensures, c .before .before .product .ensures, add-one)
+returns c = λ up. rw (c .sums .ensures up, c .before .overs .ensures up, c .before .before .products .ensures up, add-one)
 
 pub next-spec : {M : Type 1} → statement M
-next-spec = tie.close (tie.spec product-requires add-over over-requires sum-requires returns)
+next-spec = tie.close (tie.spec products-requires add-overs overs-requires sums-requires returns)

@@ -8,26 +8,27 @@ use borrow.Author.Needs.{needs}
 use Rattle.encounter.proofs.terms.next_product.Statement.{statement}
 use Rattle.encounter.proofs.terms.next_product.Tie as tie
 
-add-over : tie.Need-add-over
-add-over c = search needs
+add-overs : tie.Need-add-overs
+add-overs c = search needs
 
-over-requires : tie.Need-over-requires
-over-requires c κs = search needs
+overs-requires : tie.Need-overs-requires
+overs-requires c κs = ((λ up. widen (lit≤ tt) (c .pre .3 up)), omega arith, omega (arith, c .pre .0))
 
-sum-requires : tie.Need-sum-requires
-sum-requires c κs =
+sums-requires : tie.Need-sums-requires
+sums-requires c κs =
     let z = c .before in
-    (widen (lit≤ tt) (z .pre .2), widen (lit≤ tt) (over-of _ _ (c .over .ensures) (omega arith) (omega arith) (z .pre .3)))
+    λ up. (widen (lit≤ tt) (z .pre .2 up), widen (lit≤ tt) (over-of up _ (c .overs .ensures up) (omega arith) (omega (arith, z .pre .0)) (z .pre .3 up)))
 
-product-requires : tie.Need-product-requires
-product-requires c κs =
+products-requires : tie.Need-products-requires
+products-requires c κs =
     let z = c .before .before in
-    let p = over-of _ _ (c .before .over .ensures) (omega arith) (omega arith) (z .pre .3) in
-    (widen (lit≤ tt) (z .pre .1), widen (lit≤ tt) (sum-of _ (c .sum .ensures) (z .pre .2) (widen (lit≤ tt) p)))
+    λ up.
+    let p = over-of up _ (c .before .overs .ensures up) (omega arith) (omega (arith, z .pre .0)) (z .pre .3 up) in
+    (widen (lit≤ tt) (z .pre .1 up), widen (lit≤ tt) (sum-of up (c .sums .ensures up) (z .pre .2 up) (widen (lit≤ tt) p)))
 
 returns : tie.Need-returns
 unfolding add mul div
-returns c = rw (c .product .ensures, c .before .sum .ensures, c .before .before .over .ensures, add-two)
+returns c = λ up. rw (c .products .ensures up, c .before .sums .ensures up, c .before .before .overs .ensures up, add-two)
 
 pub next-product-spec : {M : Type 1} → statement M
-next-product-spec = tie.close (tie.spec add-over over-requires sum-requires product-requires returns)
+next-product-spec = tie.close (tie.spec add-overs overs-requires sums-requires products-requires returns)

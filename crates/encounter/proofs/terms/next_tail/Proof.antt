@@ -1,3 +1,4 @@
+use mathlib.Core.Bool.{true}
 use native.Mathlib.Numerals.{add-two}
 use native.Mathlib.Omega.{arith}
 use lib.Dec.{lit≤}
@@ -15,7 +16,7 @@ add-over : tie.Need-add-over
 add-over c = search needs
 
 over-requires : tie.Need-over-requires
-over-requires c κs = let z = c .before in (widen (lit≤ tt) (product-of _ (c .product .ensures) (z .pre .2) (z .pre .1)), omega arith)
+over-requires c κs = let z = c .before in (widen (lit≤ tt) (product-of true (c .product .ensures) (z .pre .2) (z .pre .1)), omega arith, omega (arith, z .pre .0))
 
 returns : tie.Need-returns
 unfolding next-d div mul

@@ -12,13 +12,16 @@ use Rattle.exact.specs.Steps.{add, mul, div, next-c}
 use Rattle.exact.proofs.Order.{sum-half}
 use Rattle.exact.proofs.Ranges.{widen}
 use Rattle.exact.proofs.Exponents.{mul-in}
+use Rattle.encounter.specs.Wide.{side-of}
 use Rattle.encounter.proofs.Fitting.{product-of, sum-of, half-of}
-use borrow.Author.Needs.{needs}
 use Rattle.encounter.proofs.terms.next_term.Statement.{statement}
 use Rattle.encounter.proofs.terms.next_term.Tie as tie
 
 divisor : (n : ℕ) → (n + 1) * (n + 2) ≡ suc n * suc (suc n)
 divisor n = omega arith
+
+divisor-low : (n : ℕ) → 0 < (n + 1) * (n + 2)
+divisor-low n = omega arith
 
 divisor-max : (n : ℕ) → n < 4096 → (n + 1) * (n + 2) < 2 ^ 32
 divisor-max n h = omega (arith, mul-le-mul {n₁ = n + 1} {m₁ = n + 2} {n₂ = 4096} {m₂ = 4097} (omega arith) (omega arith))
@@ -36,71 +39,86 @@ module _ (up : Bool) where
       → InRange 32 387 X → InRange 32 (2 ^ 22) y → InRange 32 B a → InRange 32 (B + 1 + 1) b
   more-in B l e f i k j = sum-of up f j (widen (omega arith) (product-of up e i k))
 
-halved-requires : tie.Need-halved-requires
-halved-requires c κs = let z = c .before .before .before .before .before in widen (lit≤ tt) (hv-in (z .args .up) (z .pre .3) (z .pre .1 .h) (z .pre .2 .v))
+halves-requires : tie.Need-halves-requires
+halves-requires c κs = let z = c .before .before .before .before .before in λ up. widen (lit≤ tt) (hv-in up (z .pre .3 up) (z .pre .1 up .h) (z .pre .2 up .v))
 
-sum-requires : tie.Need-sum-requires
-sum-requires c κs =
+sums-requires : tie.Need-sums-requires
+sums-requires c κs =
     let z = c .before .before .before .before .before .before in
-    (widen (lit≤ tt) (z .pre .2 .p), widen (lit≤ tt) (half-of (c .halved .ensures) (hv-in (z .args .up) (z .pre .3) (z .pre .1 .h) (z .pre .2 .v))))
+    λ up. (widen (lit≤ tt) (z .pre .2 up .p), widen (lit≤ tt) (half-of (c .halves .ensures up) (hv-in up (z .pre .3 up) (z .pre .1 up .h) (z .pre .2 up .v))))
 
-product-requires : tie.Need-product-requires
-product-requires c κs = let z = c .before .before .before .before .before .before .before in (widen (lit≤ tt) (z .pre .1 .X), widen (lit≤ tt) (z .pre .2 .y))
+products-requires : tie.Need-products-requires
+products-requires c κs = let z = c .before .before .before .before .before .before .before in λ up. (widen (lit≤ tt) (z .pre .1 up .X), widen (lit≤ tt) (z .pre .2 up .y))
 
-sum-requires-2 : tie.Need-sum-requires-2
-sum-requires-2 c κs =
+sums-requires-2 : tie.Need-sums-requires-2
+sums-requires-2 c κs =
     let z = c .before .before .before .before .before .before .before .before in
-    let up = z .args .up in
-    let a = first-in up (c .before .sum .ensures) (z .pre .2 .p) (half-of (c .before .before .halved .ensures) (hv-in up (z .pre .3) (z .pre .1 .h) (z .pre .2 .v))) in
-    (widen (lit≤ tt) a, widen (lit≤ tt) (product-of up (c .product .ensures) (z .pre .1 .X) (z .pre .2 .y)))
+    λ up.
+    let a = first-in up (c .before .sums .ensures up) (z .pre .2 up .p) (half-of (c .before .before .halves .ensures up) (hv-in up (z .pre .3 up) (z .pre .1 up .h) (z .pre .2 up .v))) in
+    (widen (lit≤ tt) a, widen (lit≤ tt) (product-of up (c .products .ensures up) (z .pre .1 up .X) (z .pre .2 up .y)))
 
-product-requires-2 : tie.Need-product-requires-2
-product-requires-2 c κs = let z = c .before .before .before .before .before .before .before .before .before in (widen (lit≤ tt) (z .pre .1 .Y), widen (lit≤ tt) (z .pre .2 .c))
+products-requires-2 : tie.Need-products-requires-2
+products-requires-2 c κs = let z = c .before .before .before .before .before .before .before .before .before in λ up. (widen (lit≤ tt) (z .pre .1 up .Y), widen (lit≤ tt) (z .pre .2 up .c))
 
-sum-requires-3 : tie.Need-sum-requires-3
-sum-requires-3 c κs =
+sums-requires-3 : tie.Need-sums-requires-3
+sums-requires-3 c κs =
     let z = c .before .before .before .before .before .before .before .before .before .before in
-    let up = z .args .up in
-    let a = first-in up (c .before .before .before .sum .ensures) (z .pre .2 .p) (half-of (c .before .before .before .before .halved .ensures) (hv-in up (z .pre .3) (z .pre .1 .h) (z .pre .2 .v))) in
-    let b = more-in up (2 ^ 22 + 423) (lit≤ tt) (c .before .before .product .ensures) (c .before .sum2 .ensures) (z .pre .1 .X) (z .pre .2 .y) a in
-    (widen (lit≤ tt) b, widen (lit≤ tt) (product-of up (c .product2 .ensures) (z .pre .1 .Y) (z .pre .2 .c)))
+    λ up.
+    let a = first-in up (c .before .before .before .sums .ensures up) (z .pre .2 up .p) (half-of (c .before .before .before .before .halves .ensures up) (hv-in up (z .pre .3 up) (z .pre .1 up .h) (z .pre .2 up .v))) in
+    let b = more-in up (2 ^ 22 + 423) (lit≤ tt) (c .before .before .products .ensures up) (c .before .sums2 .ensures up) (z .pre .1 up .X) (z .pre .2 up .y) a in
+    (widen (lit≤ tt) b, widen (lit≤ tt) (product-of up (c .products2 .ensures up) (z .pre .1 up .Y) (z .pre .2 up .c)))
 
-add-over : tie.Need-add-over
-add-over c = search needs
+add-overs : tie.Need-add-overs
+add-overs c = let z = c .before .before .before .before .before .before .before .before .before .before .before in record { fits = omega (arith, z .pre .0) }
 
-add-over-2 : tie.Need-add-over-2
-add-over-2 c = search needs
+add-overs-2 : tie.Need-add-overs-2
+add-overs-2 c = let z = c .before .before .before .before .before .before .before .before .before .before .before in record { fits = omega (arith, z .pre .0) }
 
-mul-over : tie.Need-mul-over
-mul-over c = let z = c .before .before .before .before .before .before .before .before .before .before .before in record { fits = divisor-max (z .args .n) (z .pre .0) }
+mul-overs : tie.Need-mul-overs
+mul-overs c = let z = c .before .before .before .before .before .before .before .before .before .before .before in record { fits = omega (arith, divisor-max (z .args .n) (z .pre .0)) }
 
-over-requires : tie.Need-over-requires
-over-requires c κs =
-    let z = c .before .before .before .before .before .before .before .before .before .before .before in
-    let up = z .args .up in
-    let a = first-in up (c .before .before .before .before .sum .ensures) (z .pre .2 .p) (half-of (c .before .before .before .before .before .halved .ensures) (hv-in up (z .pre .3) (z .pre .1 .h) (z .pre .2 .v))) in
-    let b = more-in up (2 ^ 22 + 423) (lit≤ tt) (c .before .before .before .product .ensures) (c .before .before .sum2 .ensures) (z .pre .1 .X) (z .pre .2 .y) a in
-    let all = more-in up (2 ^ 22 + 425) (lit≤ tt) (c .before .product2 .ensures) (c .sum3 .ensures) (z .pre .1 .Y) (z .pre .2 .c) b in
-    (widen (lit≤ tt) all, omega arith)
+overs-requires : tie.Need-overs-requires
+overs-requires c κs =
+    let z = c .before .before .before .before .before .before .before .before .before .before .before in (
+      (λ up.
+          let a = first-in up (c .before .before .before .before .sums .ensures up) (z .pre .2 up .p) (half-of (c .before .before .before .before .before .halves .ensures up) (hv-in up (z .pre .3 up) (z .pre .1 up .h) (z .pre .2 up .v))) in
+          let b = more-in up (2 ^ 22 + 423) (lit≤ tt) (c .before .before .before .products .ensures up) (c .before .before .sums2 .ensures up) (z .pre .1 up .X) (z .pre .2 up .y) a in
+          let all = more-in up (2 ^ 22 + 425) (lit≤ tt) (c .before .products2 .ensures up) (c .sums3 .ensures up) (z .pre .1 up .Y) (z .pre .2 up .c) b in
+          widen (lit≤ tt) all),
+      divisor-low (z .args .n),
+      divisor-max (z .args .n) (z .pre .0),
+    )
 
 returns : tie.Need-returns
 unfolding next-c add mul div
 returns c =
     let z = c .before .before .before .before .before .before .before .before .before .before .before .before in
-    rw (c .over .ensures, c .before .sum3 .ensures, c .before .before .product2 .ensures, c .before .before .before .sum2 .ensures, c .before .before .before .before .product .ensures, c .before .before .before .before .before .sum .ensures, c .before .before .before .before .before .before .halved .ensures, ← sum-half (z .args .up) 32 (z .args .s .p) (z .args .hv) (lit< tt), divisor (z .args .n), z .pre .3)
+    λ up.
+    rw (
+      c .overs .ensures up,
+      c .before .sums3 .ensures up,
+      c .before .before .products2 .ensures up,
+      c .before .before .before .sums2 .ensures up,
+      c .before .before .before .before .products .ensures up,
+      c .before .before .before .before .before .sums .ensures up,
+      c .before .before .before .before .before .before .halves .ensures up,
+      ← sum-half up 32 (side-of up (z .args .s .p)) (side-of up (z .args .hv)) (lit< tt),
+      divisor (z .args .n),
+      z .pre .3 up,
+    )
 
 pub next-term-spec : {M : Type 1} → statement M
 next-term-spec =
     tie.close
     (tie.spec
-    halved-requires
-    sum-requires
-    product-requires
-    sum-requires-2
-    product-requires-2
-    sum-requires-3
-    add-over
-    add-over-2
-    mul-over
-    over-requires
+    halves-requires
+    sums-requires
+    products-requires
+    sums-requires-2
+    products-requires-2
+    sums-requires-3
+    add-overs
+    add-overs-2
+    mul-overs
+    overs-requires
     returns)

@@ -8,20 +8,20 @@ use borrow.Author.Needs.{needs}
 use Rattle.encounter.proofs.terms.next_weighted.Statement.{statement}
 use Rattle.encounter.proofs.terms.next_weighted.Tie as tie
 
-add-over : tie.Need-add-over
-add-over c = search needs
+add-overs : tie.Need-add-overs
+add-overs c = search needs
 
-over-requires : tie.Need-over-requires
-over-requires c κs = search needs
+overs-requires : tie.Need-overs-requires
+overs-requires c κs = ((λ up. widen (lit≤ tt) (c .pre .2 up)), omega arith, omega (arith, c .pre .0))
 
-sum-requires : tie.Need-sum-requires
-sum-requires c κs =
+sums-requires : tie.Need-sums-requires
+sums-requires c κs =
     let z = c .before in
-    (widen (lit≤ tt) (z .pre .1), widen (lit≤ tt) (over-of _ _ (c .over .ensures) (omega arith) (omega arith) (z .pre .2)))
+    λ up. (widen (lit≤ tt) (z .pre .1 up), widen (lit≤ tt) (over-of up _ (c .overs .ensures up) (omega arith) (omega (arith, z .pre .0)) (z .pre .2 up)))
 
 returns : tie.Need-returns
 unfolding add div
-returns c = rw (c .sum .ensures, c .before .over .ensures, add-two)
+returns c = λ up. rw (c .sums .ensures up, c .before .overs .ensures up, add-two)
 
 pub next-weighted-spec : {M : Type 1} → statement M
-next-weighted-spec = tie.close (tie.spec add-over over-requires sum-requires returns)
+next-weighted-spec = tie.close (tie.spec add-overs overs-requires sums-requires returns)

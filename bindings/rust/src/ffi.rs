@@ -1,0 +1,47 @@
+//! The functions of libjinthuol.a, as bindings/c/jinthuol.h declares them. All unsafe code of this
+//! crate is here.
+//!
+//! Nothing checks the declarations against the library but the tests.
+
+use crate::script::Listing;
+use crate::session::{Scaled, Session};
+
+/// The refusal's number, or 0; then the order N, both ends and the class. The class is a number here:
+/// an enum of Rust would trust the library to give no other number than its own.
+#[repr(C)]
+pub struct Answer {
+    pub refusal: u32,
+    pub order: u32,
+    pub lower: Scaled,
+    pub upper: Scaled,
+    pub class: u32,
+}
+
+// `safe`: the types of these four say all that they trust. A reference is valid, and not shared while
+// it is lent. A `Session` came from these calls, since nothing else writes its private field.
+unsafe extern "C" {
+    /// Trusts nothing.
+    pub safe fn jinthuol_open() -> Session;
+
+    /// Trusts that the session came from these calls. Any five numbers will do.
+    #[allow(non_snake_case)]
+    pub safe fn jinthuol_begin(session: &mut Session, R: u32, sx: u32, sy: u32, xm: i32, ym: i32) -> Answer;
+
+    /// Trusts that the session came from these calls. Any count will do.
+    pub safe fn jinthuol_add(session: &mut Session, count: u16) -> Answer;
+
+    /// Trusts that the session came from these calls.
+    pub safe fn jinthuol_read(session: Session) -> Answer;
+
+    /// Trusts that both pointers are valid for their lengths, for reads and for writes, that the
+    /// bytes do not overlap, and that no pointer is null, also where its length is 0. Any bytes
+    /// will do.
+    unsafe fn jinthuol_run(script: *const u8, script_length: usize, out: *mut u8, out_length: usize) -> Listing;
+}
+
+/// The listing of a script, as far as the buffer has room for it.
+pub fn run(script: &[u8], out: &mut [u8]) -> Listing {
+    // SAFETY: both slices are valid for their lengths, nothing else reads or writes `out` while it
+    // is lent, and the pointer of a slice is never null.
+    unsafe { jinthuol_run(script.as_ptr(), script.len(), out.as_mut_ptr(), out.len()) }
+}

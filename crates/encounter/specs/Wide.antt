@@ -1,0 +1,40 @@
+-- Scaled numbers as the loops hold them: in two machine words, and both sides together. No line of the paper.
+use mathlib.Core.Path.{_≡_}
+use mathlib.Core.Bool.{Bool, true, false, cond, _&&_}
+use Prim.Native.Nat.{ℕ, _+_, _^_, _≤_}
+use lib.IntN.{ℤ}
+use Rattle.exact.specs.declared.Scaled.{Scaled}
+use Rattle.exact.specs.Scaled.{scaled}
+use Rattle.exact.specs.Rounding.{pack}
+use Rattle.exact.specs.Steps.{Letters, Terms, Powers}
+use Rattle.encounter.specs.declared.wide.Wide.{Wide}
+use Rattle.encounter.specs.declared.sides.Pair.{Pair}
+use Rattle.encounter.specs.declared.sides.LetterPairs.{LetterPairs}
+use Rattle.encounter.specs.declared.sides.TermPairs.{TermPairs}
+use Rattle.encounter.specs.declared.sides.PowerPairs.{PowerPairs}
+
+-- the same m and e
+abbrev pub narrow : Wide → Scaled
+narrow x = scaled (x .m) (x .e)
+
+-- h, or the whole number above it where a rest is left and the direction is up
+unfoldable pub whole-part : Bool → ℕ → Bool → ℕ
+whole-part up h s = h + cond (up && s) 1 0
+
+-- x is the rounding of h × 2^e and a rest below 2^e, whatever the h and the rest of which a is the whole part
+abbrev pub Fitted : Bool → ℕ → ℤ → Scaled → Type 0
+Fitted up a e x = (h : ℕ) (s : Bool) → 2 ^ 31 ≤ h → a ≡ whole-part up h s → x ≡ pack up 32 h e s
+
+-- one side of a pair: the lower side's where up is false
+abbrev pub side-of : Bool → Pair → Scaled
+side-of false b = narrow (b .lower)
+side-of true b = narrow (b .upper)
+
+abbrev pub letters-of : Bool → LetterPairs → Letters Scaled
+letters-of up l = record { u = side-of up (l .u); h = side-of up (l .h); X = side-of up (l .X); Y = side-of up (l .Y); t = side-of up (l .t) }
+
+abbrev pub terms-of : Bool → TermPairs → Terms Scaled
+terms-of up s = record { c = side-of up (s .c); p = side-of up (s .p); v = side-of up (s .v); y = side-of up (s .y); sum = side-of up (s .sum) }
+
+abbrev pub powers-of : Bool → PowerPairs → Powers Scaled
+powers-of up w = record { r = side-of up (w .r); sum = side-of up (w .sum) }

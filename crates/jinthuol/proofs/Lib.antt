@@ -1,0 +1,3 @@
+pub mod Replying
+pub mod Rows
+pub mod Running

@@ -1,0 +1,22 @@
+use mathlib.Core.Path.{refl}
+use Rattle.jinthuol.specs.Reply.{class-number}
+use borrow.Author.Needs.{needs}
+use Rattle.jinthuol.proofs.number.Statement.{statement}
+use Rattle.jinthuol.proofs.number.Tie as tie
+
+enum-told : tie.Need-enum-told
+enum-told c = search needs
+
+enum-told-2 : tie.Need-enum-told-2
+enum-told-2 c = search needs
+
+returns : tie.Need-returns
+unfolding class-number
+returns c = search (refl, c, needs)
+
+returns-2 : tie.Need-returns-2
+unfolding class-number
+returns-2 c = search needs
+
+pub number-spec : {M : Type 1} → statement M
+number-spec = tie.close (tie.spec enum-told enum-told-2 returns returns-2)
