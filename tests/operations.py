@@ -40,6 +40,8 @@ use crate::words::word;
 use encounter::arithmetic;
 use encounter::wide::narrowed;
 use encounter::wide::over;
+use encounter::wide::over_by;
+use encounter::wide::reciprocal_of;
 use encounter::wide::widen;
 use exact::Scaled;
 
@@ -69,7 +71,8 @@ fn answer(b: &[u8; 18]) -> Scaled {
         5 => arithmetic::halved(scaled(b, 2)),
         6 => arithmetic::doubled(scaled(b, 2)),
         7 => truth(arithmetic::at_most(scaled(b, 2), scaled(b, 10))),
-        _ => Scaled::whole(word(b, 2)),
+        8 => Scaled::whole(word(b, 2)),
+        _ => narrowed(over_by(up, widen(scaled(b, 2)), reciprocal_of(word(b, 10) as u64))),
     }
 }
 
@@ -106,6 +109,7 @@ KINDS = {
     "doubled": Kind(False, lambda a, _: scaled.doubled(a), lambda a, _: scaled.exact_double(a)),
     "at_most": Kind(False, lambda a, b: Scaled(int(scaled.at_most(a, b)), 0), None),
     "whole": Kind(False, lambda n, _: scaled.whole(n), lambda n, _: (Fraction(n), 0)),
+    "over_by": Kind(True, scaled.over, scaled.exact_over),
 }
 NUMBERS = {kind: n for n, kind in enumerate(KINDS)}
 
@@ -139,6 +143,8 @@ GAPS = [0, 1, 31, 32, 33, 62, 63, 64, 65, 1000000]
 # The functions take an e from -2^28 to 2^28, and ratios of whole numbers below 2^48.
 E_END = 1 << 28
 N_END = 1 << 48
+# The largest divisor with a reciprocal.
+K_END = 1 << 25
 # Document 01's fractions are of whole numbers up to this.
 N_MOST = 2 * 10**14
 
@@ -225,6 +231,7 @@ def of_zeros(draw):
         if a != ZERO:
             yield from both("quotient", ZERO, a)
         yield from both("over", ZERO, draw.whole(LIMIT - 1))
+        yield from both("over_by", ZERO, draw.whole(K_END))
 
 
 def of_carries(draw):
@@ -242,6 +249,13 @@ def of_divisors(draw):
         yield from both("over", draw.number(), (n + 1) * (n + 2))
     for _ in range(1000):
         yield from both("over", draw.number(), draw.whole(LIMIT - 1))
+    # By a reciprocal: the divisors n+2, and others to the largest.
+    for k in [*range(1, 4099), *near_powers(K_END), K_END]:
+        yield from both("over_by", draw.number(), k)
+    for m, k in itertools.product(draw.ms(), [1, 2, 3, 4097, 4098, K_END - 1, K_END]):
+        yield from both("over_by", Scaled(m, draw.e()), k)
+    for _ in range(1000):
+        yield from both("over_by", draw.number(), draw.whole(K_END))
 
 
 def of_exact_quotients(draw):
@@ -249,6 +263,7 @@ def of_exact_quotients(draw):
         k = draw.short()
         a = Scaled(scaled.whole(k * draw.short()).m, draw.e())
         yield from both("over", a, k)
+        yield from both("over_by", a, k)
         yield from both("quotient", a, Scaled(scaled.whole(k).m, draw.e()))
 
 

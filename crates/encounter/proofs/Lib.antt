@@ -14,3 +14,4 @@ pub mod LendSlice
 pub mod Rows
 pub mod WholeParts
 pub mod Pairs
+pub mod Reciprocals

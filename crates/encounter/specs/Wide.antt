@@ -1,13 +1,15 @@
 -- Scaled numbers as the loops hold them: in two machine words, and both sides together. No line of the paper.
 use mathlib.Core.Path.{_≡_}
 use mathlib.Core.Bool.{Bool, true, false, cond, _&&_}
-use Prim.Native.Nat.{ℕ, _+_, _^_, _≤_}
+use Prim.Native.Nat.{ℕ, _+_, _*_, _^_, _≤_, _<_}
 use lib.IntN.{ℤ}
+use lib.Ieee.{size}
 use Rattle.exact.specs.declared.Scaled.{Scaled}
 use Rattle.exact.specs.Scaled.{scaled}
 use Rattle.exact.specs.Rounding.{pack}
 use Rattle.exact.specs.Steps.{Letters, Terms, Powers}
 use Rattle.encounter.specs.declared.wide.Wide.{Wide}
+use Rattle.encounter.specs.declared.wide.Reciprocal.{Reciprocal}
 use Rattle.encounter.specs.declared.sides.Pair.{Pair}
 use Rattle.encounter.specs.declared.sides.LetterPairs.{LetterPairs}
 use Rattle.encounter.specs.declared.sides.TermPairs.{TermPairs}
@@ -24,6 +26,15 @@ whole-part up h s = h + cond (up && s) 1 0
 -- x is the rounding of h × 2^e and a rest below 2^e, whatever the h and the rest of which a is the whole part
 abbrev pub Fitted : Bool → ℕ → ℤ → Scaled → Type 0
 Fitted up a e x = (h : ℕ) (s : Bool) → 2 ^ 31 ≤ h → a ≡ whole-part up h s → x ≡ pack up 32 h e s
+
+-- high + low / 2^32 is 2^(31 + bits) / k, rounded up to 32 bits below the point; k has that many bits
+pub record IsReciprocal (r : Reciprocal) : Type 0 where
+  pub some : 0 < r .k
+  pub small : r .k ≤ 2 ^ 25
+  pub bits-are : r .bits ≡ size (r .k)
+  pub low-fits : r .low ≤ 2 ^ 32
+  pub above : 2 ^ 63 * 2 ^ r .bits ≤ (r .high * 2 ^ 32 + r .low) * r .k
+  pub near : (r .high * 2 ^ 32 + r .low) * r .k < 2 ^ 63 * 2 ^ r .bits + r .k
 
 -- one side of a pair: the lower side's where up is false
 abbrev pub side-of : Bool → Pair → Scaled

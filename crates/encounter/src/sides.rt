@@ -7,13 +7,15 @@ ghost use Rattle.exact.specs.Scaled.{value, half, InRange};
 ghost use Rattle.exact.specs.Rounding.{round};
 ghost use Rattle.exact.specs.Ranges.{Terms-in};
 ghost use Rattle.encounter.specs.Session.{step-letters, step-terms, held-terms};
-ghost use Rattle.encounter.specs.Wide.{side-of, letters-of, terms-of};
+ghost use Rattle.encounter.specs.Wide.{side-of, letters-of, terms-of, IsReciprocal};
 use crate::state::Letters;
 use crate::state::Terms;
+use crate::wide::Reciprocal;
 use crate::wide::Wide;
 use crate::wide::halved;
 use crate::wide::narrowed;
 use crate::wide::over;
+use crate::wide::over_by;
 use crate::wide::product;
 use crate::wide::sum;
 use crate::wide::widen;
@@ -122,6 +124,15 @@ pub fn overs(a: Pair, k: u64) -> Pair
 {
     let lower = over(false, a.lower, k);
     let upper = over(true, a.upper, k);
+    Pair { lower, upper }
+}
+
+pub fn overs_by(a: Pair, by: Reciprocal) -> Pair
+    requires { ⌜ ((up : Bool) → InRange 32 (2 ^ 28) (side-of up a)) × IsReciprocal by ⌝ }
+    ensures { λ r. ⌜ ((up : Bool) → side-of up r ≡ round up 32 (value (side-of up a) ÷ by .k)) ⌝ }
+{
+    let lower = over_by(false, a.lower, by);
+    let upper = over_by(true, a.upper, by);
     Pair { lower, upper }
 }
 

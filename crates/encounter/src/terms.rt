@@ -1,26 +1,29 @@
 // The terms of both sides, and the upper tail term d.
 ghost use mathlib.Core.Path.{_≡_};
 ghost use mathlib.Core.Bool.{Bool, true};
-ghost use Prim.Native.Nat.{suc, _+_, _*_, _^_, _≤_, _<_};
+ghost use Prim.Native.Nat.{_+_, _*_, _^_, _≤_, _<_};
 ghost use Rattle.exact.specs.Scaled.{value, InRange};
 ghost use Rattle.exact.specs.Rounding.{round};
 ghost use Rattle.exact.specs.Steps.{add, mul, div, first, next-c, next, next-d};
 ghost use Rattle.exact.specs.Ranges.{Letters-in, Terms-in};
 ghost use Rattle.encounter.specs.Session.{step-letters, held-terms};
-ghost use Rattle.encounter.specs.Wide.{narrow, side-of, letters-of, terms-of};
+ghost use Rattle.encounter.specs.Wide.{narrow, side-of, letters-of, terms-of, IsReciprocal};
 use crate::arithmetic;
 use crate::sides::LetterPairs;
 use crate::sides::Pair;
 use crate::sides::TermPairs;
 use crate::sides::halves;
 use crate::sides::overs;
+use crate::sides::overs_by;
 use crate::sides::products;
 use crate::sides::sums;
 use crate::state::Letters;
 use crate::state::Terms;
+use crate::wide::Reciprocal;
 use crate::wide::Wide;
 use crate::wide::over;
 use crate::wide::product;
+use crate::wide::reciprocal_of;
 use exact::Scaled;
 
 // A side's terms of index 0.
@@ -55,20 +58,20 @@ fn next_term(l: LetterPairs, s: TermPairs, hv: Pair, n: u64) -> Pair
     overs(all, (n + 1) * (n + 2))
 }
 
-// p(n + 1), where c is c(n + 1) and p is p(n).
-fn next_product(u: Pair, c: Pair, p: Pair, n: u64) -> Pair
-    requires { ⌜ (n < 4096) × ((up : Bool) → InRange 32 177 (side-of up u)) × ((up : Bool) → InRange 32 (2 ^ 23) (side-of up c)) × ((up : Bool) → InRange 32 (2 ^ 22) (side-of up p)) ⌝ }
-    ensures { λ r. ⌜ ((up : Bool) → side-of up r ≡ mul value (round up 32) (side-of up u) (add value (round up 32) (side-of up c) (div value (round up 32) (side-of up p) (suc (suc n))))) ⌝ }
+// p(n + 1), where c is c(n + 1), p is p(n) and by's k is n + 2.
+fn next_product(u: Pair, c: Pair, p: Pair, by: Reciprocal) -> Pair
+    requires { ⌜ (IsReciprocal by) × ((up : Bool) → InRange 32 177 (side-of up u)) × ((up : Bool) → InRange 32 (2 ^ 23) (side-of up c)) × ((up : Bool) → InRange 32 (2 ^ 22) (side-of up p)) ⌝ }
+    ensures { λ r. ⌜ ((up : Bool) → side-of up r ≡ mul value (round up 32) (side-of up u) (add value (round up 32) (side-of up c) (div value (round up 32) (side-of up p) (by .k)))) ⌝ }
 {
-    products(u, sums(c, overs(p, n + 2)))
+    products(u, sums(c, overs_by(p, by)))
 }
 
-// x + hx / (n + 2): v(n + 1) from c(n + 1) and h × v(n), and y(n + 1) from v(n + 1) and h × y(n).
-fn next_weighted(x: Pair, hx: Pair, n: u64) -> Pair
-    requires { ⌜ (n < 4096) × ((up : Bool) → InRange 32 (2 ^ 23) (side-of up x)) × ((up : Bool) → InRange 32 (2 ^ 23) (side-of up hx)) ⌝ }
-    ensures { λ r. ⌜ ((up : Bool) → side-of up r ≡ add value (round up 32) (side-of up x) (div value (round up 32) (side-of up hx) (suc (suc n)))) ⌝ }
+// x + hx / k, where by's k is n + 2: v(n + 1) from c(n + 1) and h × v(n), and y(n + 1) from v(n + 1) and h × y(n).
+fn next_weighted(x: Pair, hx: Pair, by: Reciprocal) -> Pair
+    requires { ⌜ (IsReciprocal by) × ((up : Bool) → InRange 32 (2 ^ 23) (side-of up x)) × ((up : Bool) → InRange 32 (2 ^ 23) (side-of up hx)) ⌝ }
+    ensures { λ r. ⌜ ((up : Bool) → side-of up r ≡ add value (round up 32) (side-of up x) (div value (round up 32) (side-of up hx) (by .k))) ⌝ }
 {
-    sums(x, overs(hx, n + 2))
+    sums(x, overs_by(hx, by))
 }
 
 // The terms of index n + 1 from those of index n.
@@ -80,10 +83,11 @@ pub fn next_terms(l: LetterPairs, s: TermPairs, n: u64) -> TermPairs
     let h = l.h;
     let hv = products(h, s.v);
     let hy = products(h, s.y);
+    let by = reciprocal_of(n + 2);
     let c = next_term(l, s, hv, n);
-    let p = next_product(u, c, s.p, n);
-    let v = next_weighted(c, hv, n);
-    let y = next_weighted(v, hy, n);
+    let p = next_product(u, c, s.p, by);
+    let v = next_weighted(c, hv, by);
+    let y = next_weighted(v, hy, by);
     let sum = sums(s.sum, c);
     TermPairs { c, p, v, y, sum }
 }

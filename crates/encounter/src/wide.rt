@@ -1,7 +1,7 @@
 // The arithmetic on scaled numbers in two machine words: each operation answers D (up is false) or U (up is true) of the exact value.
 ghost use mathlib.Core.Path.{_≡_};
 ghost use mathlib.Core.Bool.{cond};
-ghost use Prim.Native.Nat.{_+_, _*_, _/_, _%_, _^_, _<_, min};
+ghost use Prim.Native.Nat.{_+_, _*_, _/_, _%_, _^_, _≤_, _<_, min};
 ghost use lib.Dec.{ltb};
 ghost use lib.IntN.{pos, _+ℤ_, _-ℤ_};
 ghost use mir.Syntax.{w64};
@@ -10,7 +10,7 @@ ghost use Rattle.exact.specs.Fraction.{_⊕_, _⊗_, _÷_};
 ghost use Rattle.exact.specs.Integer.{posPart, negPart};
 ghost use Rattle.exact.specs.Scaled.{value, half, Normal, InRange};
 ghost use Rattle.exact.specs.Rounding.{round};
-ghost use Rattle.encounter.specs.Wide.{narrow, whole-part, Fitted};
+ghost use Rattle.encounter.specs.Wide.{narrow, whole-part, Fitted, IsReciprocal};
 use exact::Scaled;
 
 // m × 2^e.
@@ -182,6 +182,43 @@ pub fn over(up: bool, a: Wide, k: u64) -> Wide
     let n = m << bits;
     let e = lowered(x, bits);
     fit(up, upward(up, n, k - 1) / k, e)
+}
+
+// What a division by k has in common with every other by k.
+pub struct Reciprocal {
+    pub k: u64,
+    pub bits: u64,
+    pub high: u64,
+    pub low: u64,
+}
+
+pub fn reciprocal_of(k: u64) -> Reciprocal
+    requires { ⌜ (0 < k) × (k ≤ 2 ^ 25) ⌝ }
+    ensures { λ r. ⌜ (r .k ≡ k) × IsReciprocal r ⌝ }
+{
+    let bits = (64 - u64::leading_zeros(k)) as u64;
+    let n = 2147483648 << bits;
+    let high = n / k;
+    let low = (n % k * 4294967296 + (k - 1)) / k;
+    Reciprocal { k, bits, high, low }
+}
+
+// a / k, by the reciprocal of k.
+pub fn over_by(up: bool, a: Wide, by: Reciprocal) -> Wide
+    requires { ⌜ (InRange 32 (2 ^ 28) (narrow a)) × IsReciprocal by ⌝ }
+    ensures { λ r. ⌜ narrow r ≡ round up 32 (value (narrow a) ÷ by .k) ⌝ }
+{
+    let m = a.m;
+    let x = a.e;
+    let bits = by.bits;
+    let high = by.high;
+    let low = by.low;
+    if m == 0 {
+        return a;
+    }
+    let h = m * high + m * low / 4294967296;
+    let e = lowered(x, bits);
+    fit(up, upward(up, h, 2147483647) / 2147483648, e)
 }
 
 // a / 2, exactly.

@@ -32,3 +32,7 @@ pub leading-size : (k n : ℕ) → 0 < n → n < 2 ^ k → leadingZeros k n + si
 leading-size k n p h =
     let l = size-le n k h in
     omega (arith, leading-unique k n (k - size n) (size n) (omega arith) (size-lt n) (omega (arith, size-low n p)))
+
+-- the bits of a u64, as the code counts them
+pub bits-are : (n : ℕ) → 0 < n → n < 2 ^ 64 → (leadingZeros 64 n ≤ 64) × (64 - leadingZeros 64 n ≡ size n)
+bits-are n p h = let e = leading-size 64 n p h in (omega (arith, e), omega (arith, e))
