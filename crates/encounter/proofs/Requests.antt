@@ -22,7 +22,7 @@ use Rattle.exact.specs.Bracket.{readable}
 use Rattle.encounter.specs.Session.{encounter, refused, refusing, bracket}
 use Rattle.encounter.specs.Calls.{Request, begin, add, read, bad, begin-at, u16-at, signed, begin-call, add-call, read-call, request-of, request-at, taken, record-call, Reached, after, takes}
 
--- ---- two's complement
+-- ---- two's signed
 
 minus : (n : ℕ) → negsuc 0 -ℤ pos n ≡ negsuc n
 minus zero = refl

@@ -11,7 +11,7 @@ pub fn byte_at(script: &[u8], at: usize) -> u32
     script[at] as u32
 }
 
-pub fn half_at(script: &[u8], at: usize) -> u32
+pub fn u16_at(script: &[u8], at: usize) -> u32
     requires { ⌜ at + 2 ≤ length (now script) ⌝ }
     ensures { λ r. ⌜ (r ≡ u16-at (now (script .entry)) at) × (r < 65536) ⌝ }
 {
@@ -20,15 +20,15 @@ pub fn half_at(script: &[u8], at: usize) -> u32
     low + 256 * high
 }
 
-pub fn word_at(script: &[u8], at: usize) -> u32
+pub fn u32_at(script: &[u8], at: usize) -> u32
     requires { ⌜ at + 4 ≤ length (now script) ⌝ }
     ensures { λ r. ⌜ r ≡ u32-at (now (script .entry)) at ⌝ }
 {
-    half_at(script, at) + 65536 * half_at(script, at + 2)
+    u16_at(script, at) + 65536 * u16_at(script, at + 2)
 }
 
 // The two's complement reading of 32 bits.
-pub fn complement(x: u32) -> i32
+pub fn signed(x: u32) -> i32
     ensures { λ r. ⌜ r ≡ signed x ⌝ }
 {
     if x < 2147483648 {
@@ -42,5 +42,5 @@ pub fn signed_at(script: &[u8], at: usize) -> i32
     requires { ⌜ at + 4 ≤ length (now script) ⌝ }
     ensures { λ r. ⌜ r ≡ signed (u32-at (now (script .entry)) at) ⌝ }
 {
-    complement(word_at(script, at))
+    signed(u32_at(script, at))
 }

@@ -5,9 +5,9 @@ ghost use lib.ListN.{length};
 ghost use Rattle.encounter.specs.Session.{refused};
 ghost use Rattle.encounter.specs.Calls.{begin, add, begin-at, u16-at, taken, record-call, Reached};
 use crate::answers::refuse;
-use crate::bytes::half_at;
 use crate::bytes::signed_at;
-use crate::bytes::word_at;
+use crate::bytes::u16_at;
+use crate::bytes::u32_at;
 use crate::calls;
 use crate::state::Recorded;
 use crate::state::Session;
@@ -35,9 +35,9 @@ fn take_begin(script: &[u8], at: usize, s: Session) -> Taken
     let body = at + 1;
     let c = calls::begin(
         s,
-        word_at(script, body),
-        word_at(script, body + 4),
-        word_at(script, body + 8),
+        u32_at(script, body),
+        u32_at(script, body + 4),
+        u32_at(script, body + 8),
         signed_at(script, body + 12),
         signed_at(script, body + 16),
     );
@@ -53,7 +53,7 @@ fn take_add(script: &[u8], at: usize, s: Session) -> Taken
     requires { ⌜ (at + 3 ≤ length (now script)) × Reached s ⌝ }
     ensures { λ t. ⌜ (t ≡ taken (add (u16-at (now (script .entry)) (at + 1))) at s) × Reached (t .session) ⌝ }
 {
-    let c = calls::add(s, half_at(script, at + 1) as u16);
+    let c = calls::add(s, u16_at(script, at + 1) as u16);
     let answer = c.answer;
     let session = c.session;
     let next = at + 3;

@@ -16,16 +16,16 @@ use Rattle.encounter.specs.Calls.{Request, begin, add, read, bad, request-of, r
 use Rattle.listing.specs.Line.{line, room}
 use Rattle.listing.specs.Put.{Put}
 use Rattle.listing.proofs.Putting.{dropped}
-use Rattle.listing.specs.Listing.{final, lines, listing, Written, none, more, PieceOf}
+use Rattle.listing.specs.Listing.{is-final, lines, listing, Written, none, more, PieceOf}
 
 -- ---- the answers that end a script
 
-pub final-one : (a : Answer) → a .refusal ≡ 1 → true ≡ final a
-unfolding final
+pub final-one : (a : Answer) → a .refusal ≡ 1 → true ≡ is-final a
+unfolding is-final
 final-one a h = rw (eq-eqb (a .refusal) 1 h)
 
-pub final-other : (a : Answer) → (a .refusal ≡ 1 → ⊥) → eqb (a .refusal) 2 ≡ final a
-unfolding final
+pub final-other : (a : Answer) → (a .refusal ≡ 1 → ⊥) → eqb (a .refusal) 2 ≡ is-final a
+unfolding is-final
 final-other a h = rw (ne-eqb (a .refusal) 1 h)
 
 -- ---- a record that does not end the script lies before the next one
@@ -35,14 +35,14 @@ abbrev Final : Request → Type 0
 Final (begin E) = Unit {0}
 Final (add count) = Unit {0}
 Final read = Unit {0}
-Final (bad r) = final (refused r) ≡ true
+Final (bad r) = is-final (refused r) ≡ true
 
 either : {A : Type 0} (P : A → Type 0) (b : Bool) {x y : A} → P x → P y → P (cond b x y)
 either P true f g = f
 either P false f g = g
 
 finals : (l : List ℕ) (i : ℕ) → Final (request-at l i)
-unfolding request-at request-of final
+unfolding request-at request-of is-final
 finals l i =
     either Final (ltb i (length l))
     (either Final (eqb (getD l i 0) 1)
@@ -52,17 +52,17 @@ finals l i =
     (either Final (eqb (getD l i 0) 3) tt refl)))
     refl
 
-moves : (q : Request) (i : ℕ) (s : Session) → Final q → final (taken q i s .recorded .answer) ≡ false → i < taken q i s .recorded .next
+moves : (q : Request) (i : ℕ) (s : Session) → Final q → is-final (taken q i s .recorded .answer) ≡ false → i < taken q i s .recorded .next
 moves (begin E) i s f h = omega arith
 moves (add count) i s f h = omega arith
 moves read i s f h = omega arith
 moves (bad r) i s f h = absurd (subst T (sym f ∙ h) tt)
 
-pub next-after : (l : List ℕ) (i : ℕ) (s : Session) → final (record-call l i s .recorded .answer) ≡ false → i < record-call l i s .recorded .next
+pub next-after : (l : List ℕ) (i : ℕ) (s : Session) → is-final (record-call l i s .recorded .answer) ≡ false → i < record-call l i s .recorded .next
 unfolding record-call
 next-after l i s h = moves (request-at l i) i s (finals l i) h
 
-pub next-is : (l : List ℕ) (i : ℕ) (s : Session) (t : Taken) → t ≡ record-call l i s → final (t .recorded .answer) ≡ false → i < t .recorded .next
+pub next-is : (l : List ℕ) (i : ℕ) (s : Session) (t : Taken) → t ≡ record-call l i s → is-final (t .recorded .answer) ≡ false → i < t .recorded .next
 next-is l i s t e f = rw e (next-after l i s (rw e at f))
 
 -- ---- the listing
@@ -86,21 +86,21 @@ same (suc k) zero l i s h g = rw (le-ltb i (length l) (omega arith))
 same (suc k) (suc j) l i s h g =
     let t = record-call l i s in
     ap (λ (x : List ℕ). cond (ltb i (length l)) (line i (getD l i 0) (t .recorded .answer) ++ x) [])
-    (unless (final (t .recorded .answer)) (λ e. let m = next-after l i s e in same k j l (t .recorded .next) (t .session) (omega arith) (omega arith)))
+    (unless (is-final (t .recorded .answer)) (λ e. let m = next-after l i s e in same k j l (t .recorded .next) (t .session) (omega arith) (omega arith)))
 
 pub listing-step :
     (l : List ℕ) (i : ℕ) (s : Session) →
     i < length l →
     listing l i s ≡
     line i (getD l i 0) (record-call l i s .recorded .answer) ++
-    cond (final (record-call l i s .recorded .answer)) [] (listing l (record-call l i s .recorded .next) (record-call l i s .session))
+    cond (is-final (record-call l i s .recorded .answer)) [] (listing l (record-call l i s .recorded .next) (record-call l i s .session))
 unfolding listing lines
 listing-step l i s h =
     let e : length l - i ≡ suc (length l - suc i) = omega arith in
     let t = record-call l i s in
     rw (e, lt-ltb i (length l) h)
     (ap (λ (x : List ℕ). line i (getD l i 0) (t .recorded .answer) ++ x)
-    (unless (final (t .recorded .answer)) (λ f. let m = next-after l i s f in same (length l - suc i) (length l - t .recorded .next) l (t .recorded .next) (t .session) (omega arith) (omega arith))))
+    (unless (is-final (t .recorded .answer)) (λ f. let m = next-after l i s f in same (length l - suc i) (length l - t .recorded .next) l (t .recorded .next) (t .session) (omega arith) (omega arith))))
 
 -- ---- the text so far
 
@@ -128,12 +128,12 @@ module _ (l : List ℕ) (i₀ : ℕ) (s₀ : Session) (before out out′ : List 
       (e : t ≡ record-call l i s)
       (p : Put out out′ used (line i (getD l i 0) (t .recorded .answer)) end)
     where
-      text : take end out′ ++ cond (final (t .recorded .answer)) [] (listing l (t .recorded .next) (t .session)) ≡ listing l i₀ s₀
+      text : take end out′ ++ cond (is-final (t .recorded .answer)) [] (listing l (t .recorded .next) (t .session)) ≡ listing l i₀ s₀
       text =
-          ap (λ (x : List ℕ). x ++ cond (final (t .recorded .answer)) [] (listing l (t .recorded .next) (t .session))) (p .is)
-          ∙ append-assoc (take used out) (line i (getD l i 0) (t .recorded .answer)) (cond (final (t .recorded .answer)) [] (listing l (t .recorded .next) (t .session)))
+          ap (λ (x : List ℕ). x ++ cond (is-final (t .recorded .answer)) [] (listing l (t .recorded .next) (t .session))) (p .is)
+          ∙ append-assoc (take used out) (line i (getD l i 0) (t .recorded .answer)) (cond (is-final (t .recorded .answer)) [] (listing l (t .recorded .next) (t .session)))
           ∙ ap (λ (x : List ℕ). take used out ++ x)
-          (ap (λ (x : Taken). line i (getD l i 0) (x .recorded .answer) ++ cond (final (x .recorded .answer)) [] (listing l (x .recorded .next) (x .session))) e ∙ sym (listing-step l i s h))
+          (ap (λ (x : Taken). line i (getD l i 0) (x .recorded .answer) ++ cond (is-final (x .recorded .answer)) [] (listing l (x .recorded .next) (x .session))) e ∙ sym (listing-step l i s h))
           ∙ g .is
 
       longer : Written l i₀ s₀ (take end out′) (t .recorded .next) (t .session)
@@ -150,12 +150,12 @@ module _ (l : List ℕ) (i₀ : ℕ) (s₀ : Session) (before out out′ : List 
       past : drop end out′ ≡ drop end before
       past = p .rest ∙ rw (p .ends) (dropped out before used (length (line i (getD l i 0) (t .recorded .answer))) (g .rest))
 
-      pub going-on : final (t .recorded .answer) ≡ false → Reached (t .session) → end ≤ used + 89 → Going l i₀ s₀ before out′ end (t .recorded .next) (t .session)
+      pub going-on : is-final (t .recorded .answer) ≡ false → Reached (t .session) → end ≤ used + 89 → Going l i₀ s₀ before out′ end (t .recorded .next) (t .session)
       going-on f r short =
           let m = next-is l i s t e f in
           record { written = longer; is = rw f at text; reached = r; within = fits; rest = past; same-length = p .same ∙ g .same-length; from = omega (arith, g .from); few = omega (arith, g .few); some = λ n. omega (arith, g .from) }
 
-      pub going-stop : final (t .recorded .answer) ≡ true → Reached (t .session) → PieceOf l i₀ s₀ before out′ (record { used = end; next = t .recorded .next; session = t .session; ended = true })
+      pub going-stop : is-final (t .recorded .answer) ≡ true → Reached (t .session) → PieceOf l i₀ s₀ before out′ (record { used = end; next = t .recorded .next; session = t .session; ended = true })
       going-stop f r =
           record { written = longer; is = rw f at text; on = λ n z. absurd (subst T z tt); left = λ z. absurd (subst T z tt); full = λ z. absurd (subst T z tt); few = λ z. absurd (subst T z tt); reached = r; within = fits; rest = past; same = p .same ∙ g .same-length }
 

@@ -13,8 +13,8 @@ use Rattle.listing.specs.Line.{line, room}
 use Rattle.listing.specs.declared.script.Piece.{Piece}
 
 -- "It ends [..] after refusal 1 or 2; after the others it goes on."
-unfoldable pub final : Answer → Bool
-final a = eqb (a .refusal) 1 || eqb (a .refusal) 2
+unfoldable pub is-final : Answer → Bool
+is-final a = eqb (a .refusal) 1 || eqb (a .refusal) 2
 
 -- the lines of at most k records, from position i of the script on; "It ends where no byte is left"
 unfoldable pub lines : ℕ → List ℕ → ℕ → Session → List ℕ
@@ -22,7 +22,7 @@ lines zero l i s = []
 lines (suc k) l i s =
     cond (ltb i (length l))
     (line i (getD l i 0) (record-call l i s .recorded .answer) ++
-    cond (final (record-call l i s .recorded .answer)) [] (lines k l (record-call l i s .recorded .next) (record-call l i s .session)))
+    cond (is-final (record-call l i s .recorded .answer)) [] (lines k l (record-call l i s .recorded .next) (record-call l i s .session)))
     []
 
 -- every record has its kind byte, so there are no more records than bytes

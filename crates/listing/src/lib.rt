@@ -12,8 +12,8 @@ use encounter::state::Answer;
 use encounter::state::Class;
 use exact::Scaled;
 
-// The bytes that put_line asks for.
-const ROOM: usize = 100;
+// The bytes that a line is given.
+pub const ROOM: usize = 100;
 
 // The bytes of text, from index at on. Answers the index past them, as each function here does.
 fn put(out: &mut [u8], at: usize, text: &[u8]) -> usize

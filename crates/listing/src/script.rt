@@ -1,8 +1,9 @@
 // The listing of a script, in pieces.
 ghost use Rattle.encounter.specs.Calls.{Reached};
-ghost use Rattle.listing.specs.Listing.{PieceOf, final as is-final, too-long};
+ghost use Rattle.listing.specs.Listing.{PieceOf, is-final, too-long};
 ghost use Rattle.listing.specs.Put.{PutLine};
 ghost use mathlib.Core.Path.{_≡_};
+use crate::ROOM;
 use crate::put_line;
 use encounter::records::take_record;
 use encounter::state::Answer;
@@ -19,7 +20,7 @@ pub struct Piece {
 }
 
 // Whether the script ends with this answer.
-fn last(a: Answer) -> bool
+fn is_final(a: Answer) -> bool
     ensures { λ r. ⌜ r ≡ is-final a ⌝ }
 {
     if a.refusal == 1 {
@@ -37,7 +38,7 @@ pub fn put_lines(script: &[u8], at: usize, s: Session, out: &mut [u8]) -> Piece
     let mut i = at;
     let mut t = s;
     while i < script.len() {
-        if out.len() - used < 100 {
+        if out.len() - used < ROOM {
             return Piece {
                 used,
                 next: i,
@@ -51,7 +52,7 @@ pub fn put_lines(script: &[u8], at: usize, s: Session, out: &mut [u8]) -> Piece
         let answer = recorded.answer;
         let session = r.session;
         used = put_line(out, used, i, kind, answer);
-        if last(answer) {
+        if is_final(answer) {
             return Piece {
                 used,
                 next: recorded.next,

@@ -3,14 +3,14 @@ use borrow.Author.Needs.{needs}
 use Rattle.encounter.proofs.bytes.signed_at.Statement.{statement}
 use Rattle.encounter.proofs.bytes.signed_at.Tie as tie
 
-word-at-requires : tie.Need-word-at-requires
-word-at-requires c κs = search needs
+u32-at-requires : tie.Need-u32-at-requires
+u32-at-requires c κs = search needs
 
-complement-requires : tie.Need-complement-requires
-complement-requires c κs = search needs
+signed-requires : tie.Need-signed-requires
+signed-requires c κs = search needs
 
 returns : tie.Need-returns
-returns c = rw (back (c .complement .result) (c .complement .ok), c .complement .ensures, c .before .word-at .ensures)
+returns c = rw (back (c .signed .result) (c .signed .ok), c .signed .ensures, c .before .u32-at .ensures)
 
 pub signed-at-spec : {M : Type 1} → statement M
-signed-at-spec = tie.close (tie.spec word-at-requires complement-requires returns)
+signed-at-spec = tie.close (tie.spec u32-at-requires signed-requires returns)

@@ -6,11 +6,11 @@ use borrow.Author.Needs.{needs}
 use Rattle.encounter.proofs.records.take_add.Statement.{statement}
 use Rattle.encounter.proofs.records.take_add.Tie as tie
 
-add-half-at : tie.Need-add-half-at
-add-half-at c = search needs
+add-u16-at : tie.Need-add-u16-at
+add-u16-at c = search needs
 
-half-at-requires : tie.Need-half-at-requires
-half-at-requires c κs = search needs
+u16-at-requires : tie.Need-u16-at-requires
+u16-at-requires c κs = search needs
 
 cast-add : tie.Need-cast-add
 cast-add c = search needs
@@ -25,8 +25,8 @@ returns : tie.Need-returns
 returns c =
     let k = c .before .before .add .ensures in
     let z = c .before .before .before .before .before in
-    (add-taken (z .args .at) (z .args .s) (u16-at (now (z .args .script)) (z .args .at + 1)) (rw (c .before .before .before .half-at .ensures .0) at (k .0)), k .1)
+    (add-taken (z .args .at) (z .args .s) (u16-at (now (z .args .script)) (z .args .at + 1)) (rw (c .before .before .before .u16-at .ensures .0) at (k .0)), k .1)
 
 pub take-add-spec : {M : Type 1} → statement M
 take-add-spec =
-    tie.close (tie.spec add-half-at half-at-requires cast-add add-requires add-next returns)
+    tie.close (tie.spec add-u16-at u16-at-requires cast-add add-requires add-next returns)

@@ -10,20 +10,20 @@ use Rattle.encounter.proofs.records.take_begin.Tie as tie
 add-body : tie.Need-add-body
 add-body c = search needs
 
-word-at-requires : tie.Need-word-at-requires
-word-at-requires c κs = search needs
+u32-at-requires : tie.Need-u32-at-requires
+u32-at-requires c κs = search needs
 
-add-word-at : tie.Need-add-word-at
-add-word-at c = search needs
+add-u32-at : tie.Need-add-u32-at
+add-u32-at c = search needs
 
-word-at-requires-2 : tie.Need-word-at-requires-2
-word-at-requires-2 c κs = search needs
+u32-at-requires-2 : tie.Need-u32-at-requires-2
+u32-at-requires-2 c κs = search needs
 
-add-word-at-2 : tie.Need-add-word-at-2
-add-word-at-2 c = search needs
+add-u32-at-2 : tie.Need-add-u32-at-2
+add-u32-at-2 c = search needs
 
-word-at-requires-3 : tie.Need-word-at-requires-3
-word-at-requires-3 c κs = search needs
+u32-at-requires-3 : tie.Need-u32-at-requires-3
+u32-at-requires-3 c κs = search needs
 
 add-signed-at : tie.Need-add-signed-at
 add-signed-at c = search needs
@@ -49,18 +49,18 @@ returns c =
     let z = c .before .before .before .before .before .before .before .before .before in
     let x = c .before .before .before .before .signed-at in
     let y = c .before .before .before .signed-at2 in
-    (begin-taken (z .args .at) (z .args .s) (begin-at (now (z .args .script)) (z .args .at + 1)) (rw (c .before .before .before .before .before .before .before .word-at .ensures, c .before .before .before .before .before .before .word-at2 .ensures, c .before .before .before .before .before .word-at3 .ensures, back (x .result) (x .ok), x .ensures, back (y .result) (y .ok), y .ensures) at (k .0)), k .1)
+    (begin-taken (z .args .at) (z .args .s) (begin-at (now (z .args .script)) (z .args .at + 1)) (rw (c .before .before .before .before .before .before .before .u32-at .ensures, c .before .before .before .before .before .before .u32-at2 .ensures, c .before .before .before .before .before .u32-at3 .ensures, back (x .result) (x .ok), x .ensures, back (y .result) (y .ok), y .ensures) at (k .0)), k .1)
 
 pub take-begin-spec : {M : Type 1} → statement M
 take-begin-spec =
     tie.close
     (tie.spec
     add-body
-    word-at-requires
-    add-word-at
-    word-at-requires-2
-    add-word-at-2
-    word-at-requires-3
+    u32-at-requires
+    add-u32-at
+    u32-at-requires-2
+    add-u32-at-2
+    u32-at-requires-3
     add-signed-at
     signed-at-requires
     add-signed-at-2

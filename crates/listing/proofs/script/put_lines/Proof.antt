@@ -34,8 +34,8 @@ take-record-requires c κs = search needs
 put-line-requires : tie.Need-put-line-requires Inv-loop μ-loop
 put-line-requires c κs = search needs
 
-last-requires : tie.Need-last-requires Inv-loop μ-loop
-last-requires c κs = search needs
+is-final-requires : tie.Need-is-final-requires Inv-loop μ-loop
+is-final-requires c κs = search needs
 
 same-length-2 : tie.Need-same-length-2 Inv-loop μ-loop
 same-length-2 c = search needs
@@ -45,19 +45,19 @@ returns-2 c =
     let r = c .before .before .before .before .before .before .before .before .before .take-record in
     let g = c .before .before .before .before .before .before .before .before .before .before .before .before .before .loop .inv in
     let p = c .before .before .before .before .put-line .ensures .written (omega (arith, g .within, c .before .before .before .before .before .before .before .before .before .before .before .if1 .left)) in
-    going-stop _ _ _ _ _ _ _ _ _ _ (r .result) g (c .before .before .before .before .before .before .before .before .before .before .before .before .loop-test .taken) (r .ensures .0) p (sym (c .before .last .ensures) ∙ c .if2 .taken) (r .ensures .1)
+    going-stop _ _ _ _ _ _ _ _ _ _ (r .result) g (c .before .before .before .before .before .before .before .before .before .before .before .before .loop-test .taken) (r .ensures .0) p (sym (c .before .is-final .ensures) ∙ c .if2 .taken) (r .ensures .1)
 
 loop-less : tie.Need-loop-less Inv-loop μ-loop
 loop-less c =
     let r = c .before .before .before .before .before .before .before .before .before .take-record in
-    omega (arith, c .before .before .before .before .before .before .before .before .before .before .before .before .loop-test .taken, next-is _ _ _ (r .result) (r .ensures .0) (sym (c .before .last .ensures) ∙ c .if2 .left))
+    omega (arith, c .before .before .before .before .before .before .before .before .before .before .before .before .loop-test .taken, next-is _ _ _ (r .result) (r .ensures .0) (sym (c .before .is-final .ensures) ∙ c .if2 .left))
 
 loop-again : tie.Need-loop-again Inv-loop μ-loop
 loop-again c =
     let r = c .before .before .before .before .before .before .before .before .before .take-record in
     let g = c .before .before .before .before .before .before .before .before .before .before .before .before .before .loop .inv in
     let p = c .before .before .before .before .put-line .ensures .written (omega (arith, g .within, c .before .before .before .before .before .before .before .before .before .before .before .if1 .left)) in
-    going-on _ _ _ _ _ _ _ _ _ _ (r .result) g (c .before .before .before .before .before .before .before .before .before .before .before .before .loop-test .taken) (r .ensures .0) p (sym (c .before .last .ensures) ∙ c .if2 .left) (r .ensures .1) (c .before .before .before .before .put-line .ensures .short)
+    going-on _ _ _ _ _ _ _ _ _ _ (r .result) g (c .before .before .before .before .before .before .before .before .before .before .before .before .loop-test .taken) (r .ensures .0) p (sym (c .before .is-final .ensures) ∙ c .if2 .left) (r .ensures .1) (c .before .before .before .before .put-line .ensures .short)
 
 same-length-3 : tie.Need-same-length-3 Inv-loop μ-loop
 same-length-3 c = search needs
@@ -78,7 +78,7 @@ put-lines-spec =
     shared-slice-read-kind
     take-record-requires
     put-line-requires
-    last-requires
+    is-final-requires
     same-length-2
     returns-2
     loop-less

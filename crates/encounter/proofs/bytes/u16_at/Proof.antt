@@ -1,6 +1,6 @@
 use borrow.Author.Needs.{needs}
-use Rattle.encounter.proofs.bytes.half_at.Statement.{statement}
-use Rattle.encounter.proofs.bytes.half_at.Tie as tie
+use Rattle.encounter.proofs.bytes.u16_at.Statement.{statement}
+use Rattle.encounter.proofs.bytes.u16_at.Tie as tie
 
 add-byte-at : tie.Need-add-byte-at
 add-byte-at c = search needs
@@ -20,7 +20,7 @@ add-result c = search needs
 returns : tie.Need-returns
 returns c = search needs
 
-pub half-at-spec : {M : Type 1} → statement M
-half-at-spec =
+pub u16-at-spec : {M : Type 1} → statement M
+u16-at-spec =
     tie.close
     (tie.spec byte-at-requires add-byte-at byte-at-requires-2 mul-result add-result returns)

@@ -2,8 +2,8 @@ use mir.Syntax.{w32}
 use mir.ValLaws.{toZ-pos, toZ-ofZ}
 use Rattle.encounter.proofs.Requests.{below, below-fits, signed-low, signed-high}
 use borrow.Author.Needs.{needs}
-use Rattle.encounter.proofs.bytes.complement.Statement.{statement}
-use Rattle.encounter.proofs.bytes.complement.Tie as tie
+use Rattle.encounter.proofs.bytes.signed.Statement.{statement}
+use Rattle.encounter.proofs.bytes.signed.Tie as tie
 
 cast-result : tie.Need-cast-result
 cast-result c = search needs
@@ -23,6 +23,6 @@ returns c = rw (toZ-pos w32 _ (c .if1 .taken)) (signed-low _ (c .if1 .taken))
 returns-2 : tie.Need-returns-2
 returns-2 c = rw (below _ (c .if1 .left), toZ-ofZ w32 _ (below-fits _ (c .if1 .left))) (signed-high _ (c .if1 .left))
 
-pub complement-spec : {M : Type 1} → statement M
-complement-spec =
+pub signed-spec : {M : Type 1} → statement M
+signed-spec =
     tie.close (tie.spec cast-result sub-result cast-result-2 sub-result-2 returns returns-2)
