@@ -1,0 +1,75 @@
+/* The contenders: the proved library, whole numbers in plain C, doubles, and MPFR where it is there. */
+#include "contender.h"
+#include "doubles.h"
+#include "jinthuol.h"
+#include "plain.h"
+#ifdef WITH_MPFR
+#include "mpfr_steps.h"
+#endif
+
+/* The begun sessions that one round of adds is timed over. */
+#define COPIES 16
+
+#define COPY_STRUCT(to, from) (*(to) = *(from))
+#define STRUCT_ENDS(s, a) \
+    ((void)(s), (struct answer){(a).refusal, (a).N, (a).lower.m, (a).lower.e, (a).upper.m, (a).upper.e, (a).class_})
+
+#define NAME proved
+#define LABEL "proved"
+#define SESSION jinthuol_session
+#define ANSWER jinthuol_answer
+#define OPEN(s) (*(s) = jinthuol_open())
+#define BEGIN jinthuol_begin
+#define ADD jinthuol_add
+#define READ(s) jinthuol_read(*(s))
+#define COPY COPY_STRUCT
+#define ENDS STRUCT_ENDS
+#include "calls.h"
+
+#define NAME plain
+#define LABEL "plain"
+#define SESSION plain_session
+#define ANSWER plain_answer
+#define OPEN(s) (*(s) = plain_open())
+#define BEGIN plain_begin
+#define ADD plain_add
+#define READ plain_read
+#define COPY COPY_STRUCT
+#define ENDS STRUCT_ENDS
+#include "calls.h"
+
+#define NAME doubles
+#define LABEL "doubles"
+#define SESSION plain_session
+#define ANSWER plain_answer
+#define OPEN(s) (*(s) = plain_open())
+#define BEGIN doubles_begin
+#define ADD doubles_add
+#define READ plain_read
+#define COPY COPY_STRUCT
+#define ENDS STRUCT_ENDS
+#include "calls.h"
+
+#ifdef WITH_MPFR
+static struct answer steps_ends(const steps_session *s, steps_answer a)
+{
+    struct answer all = {.refusal = a.refusal, .N = a.N, .alert = a.class_};
+    if (a.refusal == 0) {
+        steps_scaled(s->lower_end, &all.ml, &all.el);
+        steps_scaled(s->upper_end, &all.mh, &all.eh);
+    }
+    return all;
+}
+
+#define NAME mpfr
+#define LABEL "mpfr"
+#define SESSION steps_session
+#define ANSWER steps_answer
+#define OPEN steps_open
+#define BEGIN steps_begin
+#define ADD steps_add
+#define READ steps_read
+#define COPY steps_copy
+#define ENDS steps_ends
+#include "calls.h"
+#endif

@@ -1,0 +1,280 @@
+/* The harness.
+
+       bench                 compares the contenders' answers, then times them and prints a table
+       bench --names         prints the contenders' names
+       bench --calls NAME    makes the calls of standard input with one contender, a line of answer for each
+
+   Exits with 1 where an answer differs from the proved library's. */
+#define _POSIX_C_SOURCE 200809L
+#include "contender.h"
+#include <inttypes.h>
+#include <stdio.h>
+#include <stdlib.h>
+#include <string.h>
+#include <time.h>
+
+/* Inputs in centimetres: Test 1 and Alfano 3 from document 01, "Encounters on each edge"; Chan 1 from document 000,
+   Table 3, as in examples/chan-1.md; the last is document 01's encounter with t = 64, at the largest order. */
+static const struct encounter CASES[] = {
+    {"Test 1", 500, 5000, 100, 1000, 0, 101},
+    {"Alfano 3", 1500, 11425, 141, 15, -388, 1597},
+    {"Chan 1", 500, 5000, 2500, 1000, 0, 49},
+    {"t = 64", 8, 1, 1, 8, 0, 4096},
+};
+
+static const struct contender *const CONTENDERS[] = {
+    &proved,
+    &plain,
+    &doubles,
+#ifdef WITH_MPFR
+    &mpfr,
+#endif
+};
+
+enum {
+    CASE_COUNT = sizeof CASES / sizeof CASES[0],
+    COUNT = sizeof CONTENDERS / sizeof CONTENDERS[0],
+    ROUNDS = 41,
+};
+
+/* The contenders' places, and the kinds of times. */
+enum { PROVED, PLAIN, DOUBLES, MPFR };
+enum { BEGIN, TERM, READ, KINDS };
+
+/* Nanoseconds that one contender is timed for one kind in one round. */
+static const double LEAST = 2e6;
+
+volatile uint32_t sink;
+
+double now(void)
+{
+    struct timespec t;
+    clock_gettime(CLOCK_MONOTONIC, &t);
+    return (double)t.tv_sec * 1e9 + (double)t.tv_nsec;
+}
+
+static void print_answer(const struct answer *a)
+{
+    printf("%" PRIu32 " %" PRIu32 " %" PRIu32 " %" PRId32 " %" PRIu32 " %" PRId32 " %" PRIu32 "\n",
+           a->refusal, a->N, a->ml, a->el, a->mh, a->eh, a->alert);
+}
+
+static int same(const struct answer *a, const struct answer *b)
+{
+    return a->refusal == b->refusal && a->N == b->N && a->ml == b->ml && a->el == b->el && a->mh == b->mh &&
+           a->eh == b->eh && a->alert == b->alert;
+}
+
+/* The answer of a read at order N. */
+static struct answer ends(const struct contender *c, const struct encounter *e)
+{
+    c->open();
+    c->begin(e->R, e->sx, e->sy, e->xm, e->ym);
+    c->add((uint16_t)(e->N - 1));
+    return c->read();
+}
+
+/* Whether every contender's ends, order and class are those of the first. */
+static int compare(const struct encounter *e)
+{
+    struct answer due = ends(CONTENDERS[0], e);
+    if (due.refusal != 0) {
+        printf("%s: %s refuses the read with %" PRIu32 "\n", e->name, CONTENDERS[0]->name, due.refusal);
+        return 0;
+    }
+    for (int i = 1; i < COUNT; i++) {
+        struct answer found = ends(CONTENDERS[i], e);
+        if (!same(&due, &found)) {
+            printf("%s: %s differs from %s\n", e->name, CONTENDERS[i]->name, CONTENDERS[0]->name);
+            print_answer(&found);
+            print_answer(&due);
+            return 0;
+        }
+    }
+    return 1;
+}
+
+/* The times of each case and, last, of the screening. */
+static double times[CASE_COUNT + 1][KINDS][COUNT][ROUNDS];
+
+static double time_of(const struct contender *c, int kind, const struct encounter *e)
+{
+    switch (kind) {
+    case BEGIN:
+        return c->time_begin(e, LEAST);
+    case TERM:
+        return c->time_add(e, LEAST);
+    default:
+        return c->time_read(e, LEAST);
+    }
+}
+
+/* In each round the cases take turns, and for each kind the contenders. */
+static void measure(const struct encounter *list)
+{
+    for (int round = 0; round < ROUNDS; round++) {
+        for (int i = 0; i < CASE_COUNT; i++)
+            for (int kind = 0; kind < KINDS; kind++)
+                for (int j = 0; j < COUNT; j++)
+                    times[i][kind][j][round] = time_of(CONTENDERS[j], kind, &CASES[i]);
+        for (int j = 0; j < COUNT; j++)
+            CONTENDERS[j]->time_screening(list, &times[CASE_COUNT][BEGIN][j][round], &times[CASE_COUNT][TERM][j][round]);
+    }
+}
+
+static int order(const void *a, const void *b)
+{
+    double x = *(const double *)a, y = *(const double *)b;
+    return (x > y) - (x < y);
+}
+
+static double median(const double *found)
+{
+    double sorted[ROUNDS];
+    memcpy(sorted, found, sizeof sorted);
+    qsort(sorted, ROUNDS, sizeof sorted[0], order);
+    return sorted[ROUNDS / 2];
+}
+
+/* The median of the rounds' ratios: both times of a ratio are of one round, so that a change of the machine's speed
+   between rounds does not count. */
+static double ratio(const double *a, const double *b)
+{
+    double found[ROUNDS];
+    for (int i = 0; i < ROUNDS; i++)
+        found[i] = a[i] / b[i];
+    return median(found);
+}
+
+/* One of the first `kinds` kinds in each line; ratios but for the read. */
+static void print_times(double found[KINDS][COUNT][ROUNDS], int kinds)
+{
+    static const char *const NAMES[KINDS] = {"begin", "term", "read"};
+    printf("  %-5s", "");
+    for (int i = 0; i < COUNT; i++)
+        printf(" %9s", CONTENDERS[i]->name);
+    printf("  proved/plain  proved/doubles");
+#ifdef WITH_MPFR
+    printf("  mpfr/proved");
+#endif
+    printf("\n");
+    for (int kind = 0; kind < kinds; kind++) {
+        double(*t)[ROUNDS] = found[kind];
+        printf("  %-5s", NAMES[kind]);
+        for (int i = 0; i < COUNT; i++)
+            printf(" %9.1f", median(t[i]));
+        if (kind != READ)
+            printf("  %12.2f  %14.2f", ratio(t[PROVED], t[PLAIN]), ratio(t[PROVED], t[DOUBLES]));
+#ifdef WITH_MPFR
+        if (kind != READ)
+            printf("  %11.2f", ratio(t[MPFR], t[PROVED]));
+#endif
+        printf("\n");
+    }
+}
+
+/* The next number of a fixed sequence (xorshift), below `limit`. */
+static uint32_t drawn(uint32_t limit)
+{
+    static uint64_t x = 88172645463325252;
+    x ^= x << 13;
+    x ^= x >> 7;
+    x ^= x << 17;
+    return (uint32_t)((x >> 32) * limit >> 32);
+}
+
+/* Encounters of all sizes with a read that the first contender accepts, at orders from 81 to 120. */
+static void draw_screening(struct encounter *list)
+{
+    for (int i = 0; i < SCREENED;) {
+        uint32_t sx = 100 + drawn(1u << (7 + drawn(14))), sy = 1 + drawn(sx), R = 1 + drawn(4 * sy);
+        int32_t xm = (int32_t)drawn(16 * sx) - (int32_t)(8 * sx), ym = (int32_t)drawn(16 * sy) - (int32_t)(8 * sy);
+        struct encounter e = {"screening", R, sx, sy, xm, ym, 81 + drawn(40)};
+        if (ends(CONTENDERS[PROVED], &e).refusal == 0)
+            list[i++] = e;
+    }
+}
+
+/* The processor's model, as the system names it. */
+static void print_processor(void)
+{
+    char line[512];
+    FILE *f = fopen("/proc/cpuinfo", "r");
+    const char *model = "unknown processor";
+    while (f && fgets(line, sizeof line, f))
+        if (strncmp(line, "model name", 10) == 0 && strchr(line, ':')) {
+            model = strchr(line, ':') + 2;
+            line[strcspn(line, "\n")] = 0;
+            break;
+        }
+    printf("%s\n", model);
+    if (f)
+        fclose(f);
+}
+
+static int table(void)
+{
+    static struct encounter list[SCREENED];
+    draw_screening(list);
+    for (int i = 0; i < CASE_COUNT; i++)
+        if (!compare(&CASES[i]))
+            return 1;
+    for (int i = 0; i < SCREENED; i++)
+        if (!compare(&list[i]))
+            return 1;
+    print_processor();
+    printf("Nanoseconds and ratios, medians of %d rounds. A term is both sides and the tail term.\n", ROUNDS);
+    printf("The ends, N and class of all contenders are equal.\n");
+    measure(list);
+    for (int i = 0; i < CASE_COUNT; i++) {
+        const struct encounter *e = &CASES[i];
+        printf("\n%s, (%" PRIu32 ", %" PRIu32 ", %" PRIu32 ", %" PRId32 ", %" PRId32 "), N = %" PRIu32 "\n", e->name,
+               e->R, e->sx, e->sy, e->xm, e->ym, e->N);
+        print_times(times[i], KINDS);
+    }
+    printf("\nScreening: %d encounters, N from 81 to 120, each begun once and added once in a round\n", SCREENED);
+    print_times(times[CASE_COUNT], READ);
+    return 0;
+}
+
+/* Lines `open`, `begin R sx sy xm ym`, `add count` and `read`; the answer's fields, or 0 for open. */
+static int calls(const struct contender *c)
+{
+    char line[128];
+    c->open();
+    while (fgets(line, sizeof line, stdin)) {
+        uint32_t R, sx, sy;
+        int32_t xm, ym;
+        uint16_t count;
+        struct answer a = {0};
+        if (sscanf(line, "begin %" SCNu32 " %" SCNu32 " %" SCNu32 " %" SCNd32 " %" SCNd32, &R, &sx, &sy, &xm, &ym) == 5)
+            a = c->begin(R, sx, sy, xm, ym);
+        else if (sscanf(line, "add %" SCNu16, &count) == 1)
+            a = c->add(count);
+        else if (strcmp(line, "read\n") == 0)
+            a = c->read();
+        else if (strcmp(line, "open\n") == 0)
+            c->open();
+        else
+            return 2;
+        print_answer(&a);
+    }
+    return 0;
+}
+
+int main(int argc, char **argv)
+{
+    if (argc == 1)
+        return table();
+    if (argc == 2 && strcmp(argv[1], "--names") == 0) {
+        for (int i = 0; i < COUNT; i++)
+            puts(CONTENDERS[i]->name);
+        return 0;
+    }
+    if (argc == 3 && strcmp(argv[1], "--calls") == 0)
+        for (int i = 0; i < COUNT; i++)
+            if (strcmp(argv[2], CONTENDERS[i]->name) == 0)
+                return calls(CONTENDERS[i]);
+    fprintf(stderr, "usage: bench [--names | --calls NAME]\n");
+    return 2;
+}

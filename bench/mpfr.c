@@ -1,0 +1,217 @@
+#include "mpfr_steps.h"
+
+/* What is formed on the way; made once, with the first session. */
+static mpfr_t b, zx, zy, g, r, hv, hy, a, w, numerator, denominator, threshold;
+static int made;
+
+static void make(void)
+{
+    mpfr_inits2(32, b, zx, zy, g, r, hv, hy, a, w, threshold, (mpfr_ptr)0);
+    /* whole numbers below 2^48 are exact here */
+    mpfr_inits2(64, numerator, denominator, (mpfr_ptr)0);
+    /* a lower end of 32 bits is at least 1/10,000 just where it is at least U(1/10,000) */
+    mpfr_set_ui(threshold, 1, MPFR_RNDU);
+    mpfr_div_ui(threshold, threshold, 10000, MPFR_RNDU);
+    made = 1;
+}
+
+#define EACH_OF_SIDE(f, s) \
+    f(s.u) f(s.h) f(s.X) f(s.Y) f(s.t) f(s.exponential) f(s.c) f(s.p) f(s.v) f(s.y) f(s.sum)
+#define EACH(f) EACH_OF_SIDE(f, lower) EACH_OF_SIDE(f, upper) f(r256) f(M) f(d) f(lower_end) f(upper_end)
+
+void steps_open(steps_session *s)
+{
+    if (!made)
+        make();
+#define INIT(x) mpfr_init2(s->x, 32);
+#define ZERO(x) mpfr_set_zero(s->x, 1);
+    if (!s->made) {
+        EACH(INIT)
+        s->made = 1;
+    }
+    EACH(ZERO)
+    s->R = s->sx = s->sy = s->N = 0;
+    s->xm = s->ym = 0;
+}
+
+void steps_copy(steps_session *to, const steps_session *from)
+{
+#define SET(x) mpfr_set(to->x, from->x, MPFR_RNDN);
+    EACH(SET)
+    to->R = from->R;
+    to->sx = from->sx;
+    to->sy = from->sy;
+    to->xm = from->xm;
+    to->ym = from->ym;
+    to->N = from->N;
+}
+
+static void ratio(mpfr_t x, uint64_t n, uint64_t d, mpfr_rnd_t way)
+{
+    mpfr_set_uj(numerator, n, MPFR_RNDN);
+    mpfr_set_uj(denominator, d, MPFR_RNDN);
+    mpfr_div(x, numerator, denominator, way);
+}
+
+static uint64_t square(int64_t x)
+{
+    return (uint64_t)(x * x);
+}
+
+/* u, zx, zy and t. */
+static void first_letters(steps_side *s, int64_t R, int64_t sx, int64_t sy, int64_t xm, int64_t ym, mpfr_rnd_t way)
+{
+    ratio(s->u, square(R), 2 * square(sy), way);
+    ratio(zx, square(xm), 2 * square(sx), way);
+    ratio(zy, square(ym), 2 * square(sy), way);
+    mpfr_add(a, zx, zy, way);
+    mpfr_add(s->t, a, s->u, way);
+}
+
+/* The rest of a side at order 1, and r(255) in r. */
+static void open_side(steps_side *s, int64_t R, int64_t sx, int64_t sy, mpfr_rnd_t way)
+{
+    ratio(b, square(R), 2 * square(sx), way);
+    ratio(g, square(sx) - square(sy), square(sx), way);
+    ratio(s->c, square(R), 2 * (uint64_t)(sx * sy), way);
+    mpfr_mul(s->h, s->u, g, way);
+    mpfr_mul(s->X, zx, b, way);
+    mpfr_mul(s->Y, zy, s->u, way);
+    mpfr_mul(s->p, s->u, s->c, way);
+    mpfr_set(s->v, s->c, way);
+    mpfr_set(s->y, s->c, way);
+    mpfr_set(s->sum, s->c, way);
+    mpfr_set_ui(r, 1, way);
+    mpfr_set_ui(s->exponential, 1, way);
+    for (unsigned long k = 1; k <= 255; k++) {
+        mpfr_mul(a, r, s->t, way);
+        mpfr_div_ui(r, a, k, way);
+        mpfr_add(s->exponential, s->exponential, r, way);
+    }
+}
+
+/* d from the one before, where it is to be divided by k. */
+static void next_tail(steps_session *s, unsigned long k)
+{
+    mpfr_mul(a, s->d, s->M, MPFR_RNDU);
+    mpfr_div_ui(s->d, a, k, MPFR_RNDU);
+}
+
+static steps_answer refuse(uint32_t refusal)
+{
+    return (steps_answer){.refusal = refusal};
+}
+
+static int outside(uint32_t n)
+{
+    return n == 0 || n > 10000000;
+}
+
+static int far(int32_t z)
+{
+    return z < -10000000 || z > 10000000;
+}
+
+/* The upper t is formed in a session of its own: a refused begin changes nothing. */
+static steps_session tried;
+
+steps_answer steps_begin(steps_session *s, uint32_t R, uint32_t sx, uint32_t sy, int32_t xm, int32_t ym)
+{
+    if (outside(R))
+        return refuse(3);
+    if (outside(sx) || outside(sy))
+        return refuse(4);
+    if (sy > sx)
+        return refuse(5);
+    if (far(xm) || far(ym))
+        return refuse(6);
+    if (!tried.made)
+        steps_open(&tried);
+    first_letters(&tried.upper, R, sx, sy, xm, ym, MPFR_RNDU);
+    if (mpfr_cmp_ui(tried.upper.t, 64) > 0)
+        return refuse(7);
+    mpfr_set(s->upper.u, tried.upper.u, MPFR_RNDU);
+    mpfr_set(s->upper.t, tried.upper.t, MPFR_RNDU);
+    open_side(&s->upper, R, sx, sy, MPFR_RNDU);
+    mpfr_mul(a, r, s->upper.t, MPFR_RNDU);
+    mpfr_div_ui(s->r256, a, 256, MPFR_RNDU);
+    mpfr_div_2ui(a, s->upper.h, 1, MPFR_RNDU);
+    mpfr_add(a, s->upper.u, a, MPFR_RNDU);
+    mpfr_add(a, a, s->upper.X, MPFR_RNDU);
+    mpfr_add(s->M, a, s->upper.Y, MPFR_RNDU);
+    mpfr_set(s->d, s->upper.c, MPFR_RNDU);
+    next_tail(s, 2);
+    first_letters(&s->lower, R, sx, sy, xm, ym, MPFR_RNDD);
+    open_side(&s->lower, R, sx, sy, MPFR_RNDD);
+    s->R = R;
+    s->sx = sx;
+    s->sy = sy;
+    s->xm = xm;
+    s->ym = ym;
+    s->N = 1;
+    return (steps_answer){.N = 1};
+}
+
+/* The side's numbers from index n - 1 to index n. */
+static void next_terms(steps_side *s, unsigned long n, mpfr_rnd_t way)
+{
+    mpfr_mul(hv, s->h, s->v, way);
+    mpfr_mul(hy, s->h, s->y, way);
+    mpfr_div_2ui(a, hv, 1, way);
+    mpfr_add(a, s->p, a, way);
+    mpfr_mul(w, s->X, s->y, way);
+    mpfr_add(a, a, w, way);
+    mpfr_mul(w, s->Y, s->c, way);
+    mpfr_add(a, a, w, way);
+    mpfr_div_ui(s->c, a, n * (n + 1), way);
+    mpfr_div_ui(a, s->p, n + 1, way);
+    mpfr_add(a, s->c, a, way);
+    mpfr_mul(s->p, s->u, a, way);
+    mpfr_div_ui(a, hv, n + 1, way);
+    mpfr_add(s->v, s->c, a, way);
+    mpfr_div_ui(a, hy, n + 1, way);
+    mpfr_add(s->y, s->v, a, way);
+    mpfr_add(s->sum, s->sum, s->c, way);
+}
+
+steps_answer steps_add(steps_session *s, uint16_t count)
+{
+    if (s->N == 0)
+        return refuse(21);
+    if (s->N + count > 4096)
+        return refuse(22);
+    for (uint32_t n = s->N; n < s->N + count; n++) {
+        next_terms(&s->lower, n, MPFR_RNDD);
+        next_terms(&s->upper, n, MPFR_RNDU);
+        next_tail(s, n + 2);
+    }
+    s->N += count;
+    return (steps_answer){.N = s->N};
+}
+
+steps_answer steps_read(steps_session *s)
+{
+    if (s->N == 0)
+        return refuse(21);
+    mpfr_mul_2ui(a, s->M, 1, MPFR_RNDU);
+    if (mpfr_cmp_ui(a, s->N + 2) > 0)
+        return refuse(23);
+    mpfr_mul_2ui(a, s->r256, 1, MPFR_RNDU);
+    mpfr_add(a, s->upper.exponential, a, MPFR_RNDU);
+    mpfr_div(s->lower_end, s->lower.sum, a, MPFR_RNDD);
+    mpfr_mul_2ui(a, s->d, 1, MPFR_RNDU);
+    mpfr_add(a, s->upper.sum, a, MPFR_RNDU);
+    mpfr_div(s->upper_end, a, s->lower.exponential, MPFR_RNDU);
+    return (steps_answer){.N = s->N, .class_ = mpfr_greaterequal_p(s->lower_end, threshold) != 0};
+}
+
+void steps_scaled(const mpfr_t x, uint32_t *m, int32_t *e)
+{
+    *m = 0;
+    *e = 0;
+    if (mpfr_zero_p(x))
+        return;
+    *e = (int32_t)(mpfr_get_exp(x) - 32);
+    mpfr_div_2si(w, x, *e, MPFR_RNDN);
+    *m = (uint32_t)mpfr_get_ui(w, MPFR_RNDN);
+}

@@ -1,0 +1,44 @@
+/* begin, add and read of document 01 in whole numbers, in plain C with no proof: the same rounded steps as the proved
+   library's, written to be fast. */
+#ifndef PLAIN_H
+#define PLAIN_H
+
+#include <stdint.h>
+
+/* A scaled number m × 2^e. */
+typedef struct {
+    uint32_t m;
+    int32_t e;
+} plain_scaled;
+
+/* A side's letters, its exponential sum, c, p, v and y at N - 1, and its sum of c(0) to c(N - 1). */
+typedef struct {
+    plain_scaled u, h, X, Y, t, exponential, c, p, v, y, sum;
+} plain_side;
+
+/* The numbers that document 01 has a session hold; N is 0 where no encounter was begun. */
+typedef struct {
+    uint32_t R, sx, sy;
+    int32_t xm, ym;
+    uint32_t N;
+    plain_side lower, upper;
+    plain_scaled r256, M, d;
+} plain_session;
+
+/* The refusal's number, or 0; then the order, both ends and the class, 1 for alert. */
+typedef struct {
+    uint32_t refusal;
+    uint32_t N;
+    plain_scaled lower, upper;
+    uint32_t class_;
+} plain_answer;
+
+plain_session plain_open(void);
+plain_answer plain_begin(plain_session *s, uint32_t R, uint32_t sx, uint32_t sy, int32_t xm, int32_t ym);
+plain_answer plain_add(plain_session *s, uint16_t count);
+plain_answer plain_read(const plain_session *s);
+
+/* Both exponential sums and the upper r(256), from the session's two t. */
+void plain_exponentials(plain_session *s);
+
+#endif
