@@ -41,7 +41,7 @@ struct contender {
 /* The encounters of the screening. */
 #define SCREENED 1000
 
-extern const struct contender proved, plain, doubles;
+extern const struct contender proved, same, plain, doubles;
 #ifdef WITH_MPFR
 extern const struct contender mpfr;
 #endif

@@ -1,8 +1,9 @@
-/* The contenders: the proved library, whole numbers in plain C, doubles, and MPFR where it is there. */
+/* The contenders: the proved library, its own shape in C, whole numbers in plain C, doubles, and MPFR where it is there. */
 #include "contender.h"
 #include "doubles.h"
 #include "jinthuol.h"
 #include "plain.h"
+#include "same.h"
 #ifdef WITH_MPFR
 #include "mpfr_steps.h"
 #endif
@@ -22,6 +23,18 @@
 #define BEGIN jinthuol_begin
 #define ADD jinthuol_add
 #define READ(s) jinthuol_read(*(s))
+#define COPY COPY_STRUCT
+#define ENDS STRUCT_ENDS
+#include "calls.h"
+
+#define NAME same
+#define LABEL "same"
+#define SESSION plain_session
+#define ANSWER plain_answer
+#define OPEN(s) (*(s) = plain_open())
+#define BEGIN same_begin
+#define ADD same_add
+#define READ plain_read
 #define COPY COPY_STRUCT
 #define ENDS STRUCT_ENDS
 #include "calls.h"

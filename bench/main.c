@@ -24,6 +24,7 @@ static const struct encounter CASES[] = {
 
 static const struct contender *const CONTENDERS[] = {
     &proved,
+    &same,
     &plain,
     &doubles,
 #ifdef WITH_MPFR
@@ -38,7 +39,7 @@ enum {
 };
 
 /* The contenders' places, and the kinds of times. */
-enum { PROVED, PLAIN, DOUBLES, MPFR };
+enum { PROVED, SAME, PLAIN, DOUBLES, MPFR };
 enum { BEGIN, TERM, READ, KINDS };
 
 /* Nanoseconds that one contender is timed for one kind in one round. */
@@ -59,7 +60,7 @@ static void print_answer(const struct answer *a)
            a->refusal, a->N, a->ml, a->el, a->mh, a->eh, a->alert);
 }
 
-static int same(const struct answer *a, const struct answer *b)
+static int equal(const struct answer *a, const struct answer *b)
 {
     return a->refusal == b->refusal && a->N == b->N && a->ml == b->ml && a->el == b->el && a->mh == b->mh &&
            a->eh == b->eh && a->alert == b->alert;
@@ -84,7 +85,7 @@ static int compare(const struct encounter *e)
     }
     for (int i = 1; i < COUNT; i++) {
         struct answer found = ends(CONTENDERS[i], e);
-        if (!same(&due, &found)) {
+        if (!equal(&due, &found)) {
             printf("%s: %s differs from %s\n", e->name, CONTENDERS[i]->name, CONTENDERS[0]->name);
             print_answer(&found);
             print_answer(&due);
@@ -146,16 +147,16 @@ static double ratio(const double *a, const double *b)
     return median(found);
 }
 
-/* One of the first `kinds` kinds in each line; ratios but for the read. */
+/* One of the first `kinds` kinds in each line; then, but for the read, proved over each other one, and MPFR over proved. */
 static void print_times(double found[KINDS][COUNT][ROUNDS], int kinds)
 {
     static const char *const NAMES[KINDS] = {"begin", "term", "read"};
     printf("  %-5s", "");
     for (int i = 0; i < COUNT; i++)
         printf(" %9s", CONTENDERS[i]->name);
-    printf("  proved/plain  proved/doubles");
+    printf("  /same  /plain  /doubles");
 #ifdef WITH_MPFR
-    printf("  mpfr/proved");
+    printf("  mpfr/");
 #endif
     printf("\n");
     for (int kind = 0; kind < kinds; kind++) {
@@ -164,10 +165,10 @@ static void print_times(double found[KINDS][COUNT][ROUNDS], int kinds)
         for (int i = 0; i < COUNT; i++)
             printf(" %9.1f", median(t[i]));
         if (kind != READ)
-            printf("  %12.2f  %14.2f", ratio(t[PROVED], t[PLAIN]), ratio(t[PROVED], t[DOUBLES]));
+            printf("  %5.2f  %6.2f  %8.2f", ratio(t[PROVED], t[SAME]), ratio(t[PROVED], t[PLAIN]), ratio(t[PROVED], t[DOUBLES]));
 #ifdef WITH_MPFR
         if (kind != READ)
-            printf("  %11.2f", ratio(t[MPFR], t[PROVED]));
+            printf("  %5.2f", ratio(t[MPFR], t[PROVED]));
 #endif
         printf("\n");
     }
@@ -224,6 +225,7 @@ static int table(void)
             return 1;
     print_processor();
     printf("Nanoseconds and ratios, medians of %d rounds. A term is both sides and the tail term.\n", ROUNDS);
+    printf("/same, /plain, /doubles: proved over it. mpfr/: MPFR over proved.\n");
     printf("The ends, N and class of all contenders are equal.\n");
     measure(list);
     for (int i = 0; i < CASE_COUNT; i++) {

@@ -1,0 +1,11 @@
+/* begin and add of the proved library, function by function in C: what the same shape takes without Rattle. open and
+   read are plain.h's. */
+#ifndef SAME_H
+#define SAME_H
+
+#include "plain.h"
+
+plain_answer same_begin(plain_session *s, uint32_t R, uint32_t sx, uint32_t sy, int32_t xm, int32_t ym);
+plain_answer same_add(plain_session *s, uint16_t count);
+
+#endif
