@@ -1,4 +1,4 @@
-/* The functions of crates/encounter, in the same shape and with the same names. */
+/* begin and add of crates/encounter in the same shape; the functions of wide.rt and sides.rt have their names. */
 #include "same.h"
 #include <stdbool.h>
 

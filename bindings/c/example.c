@@ -10,7 +10,7 @@
 
 #include "jinthuol.h"
 
-/* The library's session has 56 words, and no call writes past them. */
+/* The header's session is 56 words without padding. That no call writes past them is tested by the guard below. */
 typedef char session_has_56_words[sizeof(jinthuol_session) == 56 * sizeof(uint32_t) ? 1 : -1];
 
 static struct {

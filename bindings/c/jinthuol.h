@@ -1,7 +1,11 @@
 /* A proved bracket of the collision probability of one short encounter.
  *
  * The functions are those of libjinthuol.a (`rt staticlib jinthuol`). Lengths are whole centimetres. No pointer may be null, also where its
- * length is 0. */
+ * length is 0. C converts a number to its parameter's type without a word: test first that it fits.
+ *
+ * Refusals: 3, R is 0 or above 10,000,000; 4, sx or sy is 0 or above 10,000,000; 5, sy above sx; 6, a miss outside -10,000,000 to 10,000,000;
+ * 7, upper t above 64; 21, add or read with no encounter begun; 22, N + count above 4,096; 23, 2M above N + 2. In listings also 1, no kind byte
+ * or another kind than 1, 2 and 3; 2, body shorter than its kind needs; 8, script longer than 65,536 bytes. */
 #ifndef JINTHUOL_H
 #define JINTHUOL_H
 
@@ -28,7 +32,7 @@ typedef struct {
 enum { JINTHUOL_CLEAR = 0, JINTHUOL_ALERT = 1 };
 
 /* The refusal's number, or 0; then the order N, both ends and the class. A refusal has zero in every other field; an accepted begin or add has
- * zero in both ends and in the class. */
+ * zero in both ends and in the class. So the ends and the class mean something only in the answer of a read whose refusal is 0. */
 typedef struct {
     uint32_t refusal;
     uint32_t N;

@@ -35,7 +35,7 @@ unsafe extern "C" {
 
     /// Trusts that both pointers are valid for their lengths, for reads and for writes, that the
     /// bytes do not overlap, and that no pointer is null, also where its length is 0. Any bytes
-    /// will do.
+    /// will do. That `ended` is 0 or 1 is trusted of the library.
     unsafe fn jinthuol_run(script: *const u8, script_length: usize, out: *mut u8, out_length: usize) -> Listing;
 }
 

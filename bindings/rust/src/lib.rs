@@ -1,7 +1,7 @@
 //! A proved bracket of the collision probability of one short encounter: the calls of libjinthuol.a.
 //!
 //! Lengths are whole centimetres. The library has one premise, that a session came from its own
-//! calls. It holds of every [`Session`]: there is no other way to make or to change one.
+//! calls. It holds of every [`Session`]: safe code gets one only from these calls or as a copy of one.
 //!
 //! ```
 //! use jinthuol::{Class, Refusal, Session};

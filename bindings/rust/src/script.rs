@@ -19,8 +19,8 @@ const LONGEST: usize = 65_536;
 
 /// The listing of a script of begin, add and read records, on a session of its own.
 pub fn run(script: &[u8]) -> Vec<u8> {
-    // A listing has no more lines than the script has bytes, and one line where the script is too
-    // long. So there is room before each line, and one call writes the whole listing.
+    // 100 bytes for each byte of the script are enough, and for one line where it is too long: this is
+    // promised and proved of `jinthuol_run`.
     let mut out = vec![0; ROOM * script.len().min(LONGEST)];
     let listing = run_into(script, &mut out);
     assert!(listing.ended, "{} bytes were too few", out.len());

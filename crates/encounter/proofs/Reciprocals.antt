@@ -1,4 +1,5 @@
--- A quotient by way of a reciprocal: the product has the quotient's whole part 31 bits up, and a rest there just where the division leaves one.
+-- A quotient by way of a reciprocal: the product without its last 32 bits has the quotient's whole part 31 bits up, and a rest below it just where the
+-- division leaves one.
 use mathlib.Core.Path.{_≡_, refl, sym, _∙_, ap}
 use mathlib.Core.Bool.{Bool, cond}
 use mathlib.Core.Logic.{⊎-elim}

@@ -1,4 +1,4 @@
-// Exponents: the only signed arithmetic.
+// Exponents in an i32, of scaled numbers that no loop holds.
 ghost use mathlib.Core.Path.{_≡_};
 ghost use Prim.Native.Nat.{_+_, _^_, _<_};
 ghost use lib.IntN.{pos, _+ℤ_, _-ℤ_};

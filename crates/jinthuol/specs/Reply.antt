@@ -16,5 +16,6 @@ class-number Alert = 1
 unfoldable pub reply : Answer → Reply
 reply a = record { refusal = a .refusal; N = a .N; lower = a .lower; upper = a .upper; class = class-number (a .class) }
 
+-- a call's reply, and the session after it
 unfoldable pub replied : Called → Replied
 replied c = record { reply = reply (c .answer); session = c .session }

@@ -13,7 +13,7 @@ use Rattle.listing.specs.declared.script.Piece.{Piece}
 use Rattle.jinthuol.specs.declared.Run.{Run}
 
 -- The first bytes of the buffer are a piece of the listing from its start on: all of it where `ended`, and
--- otherwise as many lines as have room. 100 bytes for each byte of the script are room for all.
+-- otherwise as many lines as have room. 100 bytes for each byte of the script are room for all. A script that is too long is refused as the program refuses it.
 pub record RunOf (l before after : List ℕ) (r : Run) : Type 0 where
   pub whole : r .ended ≡ true → take (r .used) after ≡ printed l
   pub full : r .ended ≡ false → length before < r .used + room

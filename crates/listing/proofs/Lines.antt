@@ -106,19 +106,17 @@ listing-step l i s h =
 
 -- the first bytes of the buffer, then the listing from position i on, are the listing due
 pub record Going (l : List ℕ) (i₀ : ℕ) (s₀ : Session) (before out : List ℕ) (used i : ℕ) (s : Session) : Type 0 where
-  pub written : Written l i₀ s₀ (take used out) i s
+  pub written : Written l (length before) i₀ s₀ (take used out) i s
   pub is : take used out ++ listing l i s ≡ listing l i₀ s₀
   pub reached : Reached s
   pub within : used ≤ length out
   pub rest : drop used out ≡ drop used before
   pub same-length : length out ≡ length before
-  pub from : i₀ ≤ i
   pub few : used + 89 * i₀ ≤ 89 * i
-  pub some : 0 < used → i₀ < i
 
 pub going-start : (l : List ℕ) (i : ℕ) (s : Session) (out : List ℕ) → Reached s → Going l i s out out 0 i s
 going-start l i s out h =
-    record { written = none; is = refl; reached = h; within = omega arith; rest = refl; same-length = refl; from = omega arith; few = omega arith; some = λ n. absurd (omega arith) }
+    record { written = none; is = refl; reached = h; within = omega arith; rest = refl; same-length = refl; few = omega arith }
 
 -- one line more
 module _ (l : List ℕ) (i₀ : ℕ) (s₀ : Session) (before out out′ : List ℕ) (used i end : ℕ) (s : Session) (t : Taken) where
@@ -127,6 +125,7 @@ module _ (l : List ℕ) (i₀ : ℕ) (s₀ : Session) (before out out′ : List 
       (h : i < length l)
       (e : t ≡ record-call l i s)
       (p : Put out out′ used (line i (getD l i 0) (t .recorded .answer)) end)
+      (r : used + room ≤ length out)
     where
       text : take end out′ ++ cond (is-final (t .recorded .answer)) [] (listing l (t .recorded .next) (t .session)) ≡ listing l i₀ s₀
       text =
@@ -136,10 +135,11 @@ module _ (l : List ℕ) (i₀ : ℕ) (s₀ : Session) (before out out′ : List 
           (ap (λ (x : Taken). line i (getD l i 0) (x .recorded .answer) ++ cond (is-final (x .recorded .answer)) [] (listing l (x .recorded .next) (x .session))) e ∙ sym (listing-step l i s h))
           ∙ g .is
 
-      longer : Written l i₀ s₀ (take end out′) (t .recorded .next) (t .session)
+      longer : Written l (length before) i₀ s₀ (take end out′) (t .recorded .next) (t .session)
       longer =
-          subst (λ (x : List ℕ). Written l i₀ s₀ x (t .recorded .next) (t .session)) (sym (p .is))
-          (subst (λ (x : Taken). Written l i₀ s₀ (take used out ++ line i (getD l i 0) (x .recorded .answer)) (x .recorded .next) (x .session)) (sym e) (more (g .written) h))
+          subst (λ (x : List ℕ). Written l (length before) i₀ s₀ x (t .recorded .next) (t .session)) (sym (p .is))
+          (subst (λ (x : Taken). Written l (length before) i₀ s₀ (take used out ++ line i (getD l i 0) (x .recorded .answer)) (x .recorded .next) (x .session)) (sym e)
+          (more (g .written) h (omega (arith, r, g .same-length, length-take-le used out (g .within)))))
 
       fits : end ≤ length out′
       fits =
@@ -151,13 +151,13 @@ module _ (l : List ℕ) (i₀ : ℕ) (s₀ : Session) (before out out′ : List 
       past = p .rest ∙ rw (p .ends) (dropped out before used (length (line i (getD l i 0) (t .recorded .answer))) (g .rest))
 
       pub going-on : is-final (t .recorded .answer) ≡ false → Reached (t .session) → end ≤ used + 89 → Going l i₀ s₀ before out′ end (t .recorded .next) (t .session)
-      going-on f r short =
+      going-on f w short =
           let m = next-is l i s t e f in
-          record { written = longer; is = rw f at text; reached = r; within = fits; rest = past; same-length = p .same ∙ g .same-length; from = omega (arith, g .from); few = omega (arith, g .few); some = λ n. omega (arith, g .from) }
+          record { written = longer; is = rw f at text; reached = w; within = fits; rest = past; same-length = p .same ∙ g .same-length; few = omega (arith, g .few) }
 
       pub going-stop : is-final (t .recorded .answer) ≡ true → Reached (t .session) → PieceOf l i₀ s₀ before out′ (record { used = end; next = t .recorded .next; session = t .session; ended = true })
-      going-stop f r =
-          record { written = longer; is = rw f at text; on = λ n z. absurd (subst T z tt); left = λ z. absurd (subst T z tt); full = λ z. absurd (subst T z tt); few = λ z. absurd (subst T z tt); reached = r; within = fits; rest = past; same = p .same ∙ g .same-length }
+      going-stop f w =
+          record { written = longer; is = rw f at text; left = λ z. absurd (subst T z tt); full = λ z. absurd (subst T z tt); few = λ z. absurd (subst T z tt); reached = w; within = fits; rest = past; same = p .same ∙ g .same-length }
 
 pub going-full :
     (l : List ℕ) (i₀ : ℕ) (s₀ : Session) (before out : List ℕ) (used i : ℕ) (s : Session) →
@@ -166,7 +166,7 @@ pub going-full :
     length out < used + room →
     PieceOf l i₀ s₀ before out (record { used = used; next = i; session = s; ended = false })
 going-full l i₀ s₀ before out used i s g k h =
-    record { written = g .written; is = g .is; on = λ r n. g .some (omega (arith, g .same-length)); left = λ n. k; full = λ n. omega (arith, g .same-length); few = λ n. g .few; reached = g .reached; within = g .within; rest = g .rest; same = g .same-length }
+    record { written = g .written; is = g .is; left = λ n. k; full = λ n. omega (arith, g .same-length); few = λ n. g .few; reached = g .reached; within = g .within; rest = g .rest; same = g .same-length }
 
 pub going-end :
     (l : List ℕ) (i₀ : ℕ) (s₀ : Session) (before out : List ℕ) (used i : ℕ) (s : Session) →
@@ -177,7 +177,6 @@ going-end l i₀ s₀ before out used i s g h =
     record {
       written = g .written;
       is = rw (listing-end l i s h) at (g .is);
-      on = λ n z. absurd (subst T z tt);
       left = λ z. absurd (subst T z tt);
       full = λ z. absurd (subst T z tt);
       few = λ z. absurd (subst T z tt);

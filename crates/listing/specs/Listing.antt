@@ -37,25 +37,25 @@ too-long = refused 8
 unfoldable pub printed : List ℕ → List ℕ
 printed l = cond (ltb 65536 (length l)) (line 0 0 too-long) (listing l 0 empty)
 
--- text is that of some records from position i on, in order; then comes position j, with session t
-pub data Written (l : List ℕ) (i : ℕ) (s : Session) : List ℕ → ℕ → Session → Type 0 where
-  none : Written l i s [] i s
+-- text is that of some records from position i on, in order, each of whose lines had room among n bytes; then comes position j, with session t
+pub data Written (l : List ℕ) (n i : ℕ) (s : Session) : List ℕ → ℕ → Session → Type 0 where
+  none : Written l n i s [] i s
   more :
       {text : List ℕ} {j : ℕ} {t : Session} →
-      Written l i s text j t →
+      Written l n i s text j t →
       j < length l →
-      Written l i s (text ++ line j (getD l j 0) (record-call l j t .recorded .answer)) (record-call l j t .recorded .next) (record-call l j t .session)
+      length text + room ≤ n →
+      Written l n i s (text ++ line j (getD l j 0) (record-call l j t .recorded .answer)) (record-call l j t .recorded .next) (record-call l j t .session)
 
 -- A piece of the listing from position i on: the first bytes of the buffer are the text of its records, and these bytes with the listing from the next
--- position on are the listing. It ends before the listing does only where the buffer has no room for another line, and then no line has
--- more than 89 bytes; where a byte of the script is left, and room for a line, it has one record at least.
+-- position on are the listing. Each line had `room` bytes, and the piece ends before the listing does only where fewer are left; then it has used at most
+-- 89 bytes for each byte of the script from i to the next position.
 pub record PieceOf (l : List ℕ) (i : ℕ) (s : Session) (before after : List ℕ) (p : Piece) : Type 0 where
-  pub written : Written l i s (take (p .used) after) (p .next) (p .session)
+  pub written : Written l (length before) i s (take (p .used) after) (p .next) (p .session)
   pub is : take (p .used) after ++ cond (p .ended) [] (listing l (p .next) (p .session)) ≡ listing l i s
-  pub on : room ≤ length before → p .ended ≡ false → i < p .next
-  pub left : p .ended ≡ false → p .next < length l
   pub full : p .ended ≡ false → length before < p .used + room
   pub few : p .ended ≡ false → p .used + 89 * i ≤ 89 * p .next
+  pub left : p .ended ≡ false → p .next < length l
   pub reached : Reached (p .session)
   pub within : p .used ≤ length after
   pub rest : drop (p .used) after ≡ drop (p .used) before

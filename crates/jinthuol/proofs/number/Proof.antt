@@ -1,4 +1,3 @@
-use mathlib.Core.Path.{refl}
 use Rattle.jinthuol.specs.Reply.{class-number}
 use borrow.Author.Needs.{needs}
 use Rattle.jinthuol.proofs.number.Statement.{statement}
@@ -12,7 +11,7 @@ enum-told-2 c = search needs
 
 returns : tie.Need-returns
 unfolding class-number
-returns c = search (refl, c, needs)
+returns c = search needs
 
 returns-2 : tie.Need-returns-2
 unfolding class-number
