@@ -29,7 +29,9 @@ write-out-requires : tie.Need-write-out-requires Inv-loop μ-loop
 write-out-requires c κs = search needs
 
 loop-less : tie.Need-loop-less Inv-loop μ-loop
-loop-less c = omega (arith, c .before .before .before .before .before .before .before .before .loop-test .taken, c .before .before .before .before .before .before .put-lines .ensures .on (omega (arith, c .before .before .before .before .before .before .before .before .before .loop .inv .1)) (c .before .if2 .left))
+loop-less c =
+    let p = c .before .before .before .before .before .before .put-lines .ensures in
+    omega (arith, c .before .before .before .before .before .before .before .before .loop-test .taken, c .before .before .before .before .before .before .before .before .before .loop .inv .1, p .full (c .before .if2 .left), p .few (c .before .if2 .left))
 
 loop-again : tie.Need-loop-again Inv-loop μ-loop
 loop-again c = (c .before .before .before .before .before .before .put-lines .ensures .reached, c .before .before .before .before .before .before .before .before .before .loop .inv .1 ∙ sym (c .before .before .before .before .before .before .put-lines .ensures .same))
