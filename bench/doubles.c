@@ -228,15 +228,9 @@ static plain_answer refuse(uint32_t refusal)
 
 plain_answer doubles_begin(plain_session *s, uint32_t R, uint32_t sx, uint32_t sy, int32_t xm, int32_t ym)
 {
-    const uint32_t most = 10000000;
-    if (R - 1 >= most)
-        return refuse(3);
-    if (sx - 1 >= most || sy - 1 >= most)
-        return refuse(4);
-    if (sy > sx)
-        return refuse(5);
-    if ((uint32_t)xm + most > 2 * most || (uint32_t)ym + most > 2 * most)
-        return refuse(6);
+    uint32_t first = plain_tests(R, sx, sy, xm, ym);
+    if (first)
+        return refuse(first);
     direction before = downward();
     uint32_t refusal = open_session(s, R, sx, sy, xm, ym);
     restore(before);

@@ -356,15 +356,9 @@ plain_session plain_open(void)
 
 plain_answer plain_begin(plain_session *s, uint32_t R, uint32_t sx, uint32_t sy, int32_t xm, int32_t ym)
 {
-    const uint32_t most = 10000000;
-    if (R - 1 >= most)
-        return refuse(3);
-    if (sx - 1 >= most || sy - 1 >= most)
-        return refuse(4);
-    if (sy > sx)
-        return refuse(5);
-    if ((uint32_t)xm + most > 2 * most || (uint32_t)ym + most > 2 * most)
-        return refuse(6);
+    uint32_t first = plain_tests(R, sx, sy, xm, ym);
+    if (first)
+        return refuse(first);
     u64 RR = (u64)R * R, xx = (u64)sx * sx, yy = (u64)sy * sy;
     plain_scaled zx[2], zy[2], u[2], b[2], g[2], c[2];
     ratio(RR, 2 * yy, &u[0], &u[1]);

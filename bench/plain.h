@@ -38,6 +38,19 @@ plain_answer plain_begin(plain_session *s, uint32_t R, uint32_t sx, uint32_t sy,
 plain_answer plain_add(plain_session *s, uint16_t count);
 plain_answer plain_read(const plain_session *s);
 
+/* Tests 3 to 6: the number of the first that refuses, or 0. */
+static inline uint32_t plain_tests(uint32_t R, uint32_t sx, uint32_t sy, int32_t xm, int32_t ym)
+{
+    const uint32_t most = 10000000;
+    if (R - 1 >= most)
+        return 3;
+    if (sx - 1 >= most || sy - 1 >= most)
+        return 4;
+    if (sy > sx)
+        return 5;
+    return (uint32_t)xm + most > 2 * most || (uint32_t)ym + most > 2 * most ? 6 : 0;
+}
+
 /* Both exponential sums and the upper r(256), from the session's two t. */
 void plain_exponentials(plain_session *s);
 

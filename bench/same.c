@@ -225,15 +225,9 @@ static void put_side(plain_side *s, letters l, wide start, wide p, wide exponent
 
 plain_answer same_begin(plain_session *s, uint32_t R, uint32_t sx, uint32_t sy, int32_t xm, int32_t ym)
 {
-    const uint32_t most = 10000000;
-    if (R == 0 || most < R)
-        return (plain_answer){.refusal = 3};
-    if (sx == 0 || most < sx || sy == 0 || most < sy)
-        return (plain_answer){.refusal = 4};
-    if (sx < sy)
-        return (plain_answer){.refusal = 5};
-    if (xm < -10000000 || 10000000 < xm || ym < -10000000 || 10000000 < ym)
-        return (plain_answer){.refusal = 6};
+    uint32_t first = plain_tests(R, sx, sy, xm, ym);
+    if (first)
+        return (plain_answer){.refusal = first};
     letters above = letters_of(true, R, sx, sy, xm, ym);
     /* 64 is 2^31 × 2^-25 */
     if (above.t.m != 0 && (above.t.e > -25 || (above.t.e == -25 && above.t.m > 0x80000000u)))

@@ -1,5 +1,5 @@
-/* begin and add of the proved library in C, in the same shape: what that shape takes without Rattle. open and read are
-   plain.h's. */
+/* begin and add of the proved library in C, in the same shape: what that shape takes without Rattle. open, read and tests 3
+   to 6 are plain.h's. */
 #ifndef SAME_H
 #define SAME_H
 
