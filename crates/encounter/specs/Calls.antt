@@ -5,9 +5,8 @@ use Prim.Native.Nat.{ℕ, _+_, _-_, _*_}
 use lib.Dec.{ltb, eqb}
 use lib.IntN.{ℤ, pos, negsuc}
 use lib.ListN.{length, getD}
-use Rattle.exact.specs.Encounter.{Encounter}
-use Rattle.exact.specs.Bracket.{readable}
-use Rattle.exact.specs.Accepted.{begin-refusal}
+use Rattle.exact.specs.declared.Encounter.{Encounter}
+use Rattle.exact.specs.Refusals.{refuses-23, begin-refusal}
 use Rattle.encounter.specs.declared.state.Session.{Session}
 use Rattle.encounter.specs.declared.state.Called.{Called}
 use Rattle.encounter.specs.declared.state.Taken.{Taken}

@@ -6,10 +6,10 @@ use Prim.Native.Nat.{ℕ, _+_, _*_, _^_, _≤_}
 use lib.Dec.{eqb}
 use Rattle.exact.specs.Fraction.{_≼_, _⊗_, _↑_, _over_}
 use Rattle.exact.specs.Scaled.{value}
-use Rattle.exact.specs.Rounding.{slack}
-use Rattle.exact.specs.Encounter.{Encounter}
+use Rattle.exact.proofs.Rounding.{slack}
+use Rattle.exact.specs.declared.Encounter.{Encounter}
 use Rattle.exact.specs.Series.{quotient}
-use Rattle.exact.specs.Bracket.{sum-to, tail-bound, lower-end, upper-end}
+use Rattle.exact.specs.Steps.{sum-to, tail-bound, lower-end, upper-end}
 use Rattle.encounter.specs.declared.state.Session.{Session}
 use Rattle.encounter.specs.declared.state.Answer.{Answer}
 use Rattle.encounter.specs.Session.{empty}

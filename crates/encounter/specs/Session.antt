@@ -5,13 +5,12 @@ use Prim.Native.Nat.{ℕ, suc, pred, _≤_}
 use lib.IntN.{pos}
 use Rattle.exact.specs.declared.Scaled.{Scaled}
 use Rattle.exact.specs.Scaled.{nought}
-use Rattle.exact.specs.Encounter.{Encounter}
-use Rattle.exact.specs.Steps.{Letters as StepLetters, Terms as StepTerms}
-use Rattle.exact.specs.Bracket.{side-letters, side-terms, side-powers, M, d, lower-end, upper-end, alert}
+use Rattle.exact.specs.declared.Encounter.{Encounter}
+use Rattle.exact.specs.Steps.{LettersOf, TermsOf, side-letters, side-terms, side-powers, M, d, lower-end, upper-end, alert}
 use Rattle.encounter.specs.declared.state.Letters.{Letters}
 use Rattle.encounter.specs.declared.state.Terms.{Terms}
-use Rattle.exact.specs.Accepted.{Accepted}
-use Rattle.encounter.specs.declared.progress.Progress.{Progress}
+use Rattle.exact.specs.Refusals.{Accepted}
+use Rattle.encounter.specs.declared.steps.progress.Progress.{Progress}
 use Rattle.encounter.specs.declared.state.Side.{Side}
 use Rattle.encounter.specs.declared.state.Session.{Session}
 use Rattle.encounter.specs.declared.state.Class.{Class}
@@ -22,16 +21,16 @@ use Rattle.encounter.specs.declared.state.Called.{Called}
 -- ---- the session
 
 -- the letters and terms of the steps, as the session holds them, and back
-abbrev pub held-letters : StepLetters Scaled → Letters
+abbrev pub held-letters : LettersOf Scaled → Letters
 held-letters l = record { u = l .u; h = l .h; X = l .X; Y = l .Y; t = l .t }
 
-abbrev pub step-letters : Letters → StepLetters Scaled
+abbrev pub step-letters : Letters → LettersOf Scaled
 step-letters l = record { u = l .u; h = l .h; X = l .X; Y = l .Y; t = l .t }
 
-abbrev pub held-terms : StepTerms Scaled → Terms
+abbrev pub held-terms : TermsOf Scaled → Terms
 held-terms s = record { c = s .c; p = s .p; v = s .v; y = s .y; sum = s .sum }
 
-abbrev pub step-terms : Terms → StepTerms Scaled
+abbrev pub step-terms : Terms → TermsOf Scaled
 step-terms s = record { c = s .c; p = s .p; v = s .v; y = s .y; sum = s .sum }
 
 -- "It starts empty, with zero in every field."

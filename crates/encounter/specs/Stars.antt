@@ -6,11 +6,10 @@ use Prim.Native.Nat.{ℕ, _+_, _^_}
 use lib.IntN.{pos, negsuc}
 use Rattle.exact.specs.declared.Scaled.{Scaled}
 use Rattle.exact.specs.Fraction.{Frac, _≈_, _over_, _⊗_, whole}
-use Rattle.exact.specs.Scaled.{scaled, nought, value}
-use Rattle.exact.specs.Rounding.{D, U}
-use Rattle.exact.specs.Encounter.{Encounter, encounter-of, u, h, X, Y, t, a₀}
-use Rattle.exact.specs.Series.{c}
-use Rattle.exact.specs.Bracket.{side-letters, side-start, side-terms, M, tail-bound}
+use Rattle.exact.specs.Scaled.{scaled, nought, value, D, U}
+use Rattle.exact.specs.declared.Encounter.{Encounter}
+use Rattle.exact.specs.Series.{u, h, X, Y, t, a₀, c}
+use Rattle.exact.specs.Steps.{side-letters, side-start, side-terms, M, tail-bound}
 use Rattle.encounter.specs.declared.state.Answer.{Answer}
 use Rattle.encounter.specs.Session.{empty, state}
 use Rattle.encounter.specs.Calls.{begin-call, read-call}

@@ -6,14 +6,14 @@ use lib.IntN.{ℤ}
 use lib.Ieee.{size}
 use Rattle.exact.specs.declared.Scaled.{Scaled}
 use Rattle.exact.specs.Scaled.{scaled}
-use Rattle.exact.specs.Rounding.{pack}
-use Rattle.exact.specs.Steps.{Letters, Terms, Powers}
-use Rattle.encounter.specs.declared.wide.Wide.{Wide}
-use Rattle.encounter.specs.declared.wide.Reciprocal.{Reciprocal}
-use Rattle.encounter.specs.declared.sides.Pair.{Pair}
-use Rattle.encounter.specs.declared.sides.LetterPairs.{LetterPairs}
-use Rattle.encounter.specs.declared.sides.TermPairs.{TermPairs}
-use Rattle.encounter.specs.declared.sides.PowerPairs.{PowerPairs}
+use Rattle.exact.specs.Private.Round.{pack}
+use Rattle.exact.specs.Steps.{LettersOf, TermsOf, PowersOf}
+use Rattle.encounter.specs.declared.arithmetic.wide.Wide.{Wide}
+use Rattle.encounter.specs.declared.arithmetic.wide.Reciprocal.{Reciprocal}
+use Rattle.encounter.specs.declared.steps.sides.Pair.{Pair}
+use Rattle.encounter.specs.declared.steps.sides.LetterPairs.{LetterPairs}
+use Rattle.encounter.specs.declared.steps.sides.TermPairs.{TermPairs}
+use Rattle.encounter.specs.declared.steps.sides.PowerPairs.{PowerPairs}
 
 -- the same m and e
 abbrev pub narrow : Wide → Scaled
@@ -41,11 +41,11 @@ abbrev pub side-of : Bool → Pair → Scaled
 side-of false b = narrow (b .lower)
 side-of true b = narrow (b .upper)
 
-abbrev pub letters-of : Bool → LetterPairs → Letters Scaled
+abbrev pub letters-of : Bool → LetterPairs → LettersOf Scaled
 letters-of up l = record { u = side-of up (l .u); h = side-of up (l .h); X = side-of up (l .X); Y = side-of up (l .Y); t = side-of up (l .t) }
 
-abbrev pub terms-of : Bool → TermPairs → Terms Scaled
+abbrev pub terms-of : Bool → TermPairs → TermsOf Scaled
 terms-of up s = record { c = side-of up (s .c); p = side-of up (s .p); v = side-of up (s .v); y = side-of up (s .y); sum = side-of up (s .sum) }
 
-abbrev pub powers-of : Bool → PowerPairs → Powers Scaled
+abbrev pub powers-of : Bool → PowerPairs → PowersOf Scaled
 powers-of up w = record { r = side-of up (w .r); sum = side-of up (w .sum) }

@@ -1,16 +1,6 @@
-// The library: one encounter at a time, answered by a bracket of its collision probability. The arithmetic is private.
-mod answers;
+// The library: one encounter at a time, answered by a bracket of its collision probability. Three floors: the arithmetic on scaled numbers and the rounded
+// steps are private, the calls public.
 mod arithmetic;
-mod bytes;
 pub mod calls;
-mod exponent;
-pub mod lent;
-mod letters;
-mod powers;
-mod progress;
-pub mod records;
-mod rounding;
-mod sides;
 pub mod state;
-mod terms;
-mod wide;
+mod steps;

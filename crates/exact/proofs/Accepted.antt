@@ -9,11 +9,14 @@ use lib.Dec.{ltb, eqb}
 use lib.IntN.{pos, natAbs, _-ℤ_}
 use Rattle.exact.specs.Fraction.{_≼_, _over_, whole}
 use Rattle.exact.specs.Scaled.{value}
-use Rattle.exact.specs.Encounter.{Encounter, g}
-use Rattle.exact.specs.Bracket.{side-letters}
-use Rattle.exact.specs.Accepted.{outside, miss-outside, tests-3-to-6, begin-refusal, Bounds, Accepted}
+use Rattle.exact.specs.declared.Encounter.{Encounter}
+use Rattle.exact.specs.Series.{g}
+use Rattle.exact.specs.Steps.{side-letters}
+use Rattle.exact.specs.Numbers.{largest-length, largest-t}
+use Rattle.exact.specs.Refusals.{outside, miss-outside, refuses-3, refuses-4, refuses-5, refuses-6, refuses-7, begin-refusal, Accepted}
+use Rattle.exact.specs.Private.Ranges.{tests-3-to-6, Bounds}
 use Rattle.exact.proofs.Integers.{balanced, bal-diff}
-use Rattle.exact.proofs.Order.{at-most-holds}
+use Rattle.exact.proofs.Order.{not-above}
 
 -- a test that did not refuse
 passed : (k : ℕ) (b : Bool) (r : ℕ) → cond b (suc k) r ≡ 0 → (b ≡ false) × (r ≡ 0)
@@ -31,16 +34,16 @@ neither true b h = (h, both b h)
     both false h = refl
 neither false b h = (refl, h)
 
-inside : (n : ℕ) → outside n ≡ false → (0 < n) × (n ≤ 10000000)
+inside : (n : ℕ) → outside n ≡ false → (0 < n) × (n ≤ largest-length)
 unfolding outside
 inside n h =
-    let (z, l) = neither (eqb n 0) (ltb 10000000 n) h in
+    let (z, l) = neither (eqb n 0) (ltb largest-length n) h in
     let nz = eqb-false n 0 z in
-    (omega arith, ltb-false 10000000 n l)
+    (omega arith, ltb-false largest-length n l)
 
 -- the tests 3 to 6 passed, and what follows them says 0
 pub bounds : (E : Encounter) (rest : ℕ) → tests-3-to-6 E rest ≡ 0 → Bounds E × (rest ≡ 0)
-unfolding tests-3-to-6 miss-outside
+unfolding tests-3-to-6 refuses-3 refuses-4 refuses-5 refuses-6 miss-outside
 bounds E rest h =
     let (t3, r3) = passed 2 (outside (E .R)) _ h in
     let (t4, r4) = passed 3 (outside (E .sx) || outside (E .sy)) _ r3 in
@@ -57,25 +60,21 @@ bounds E rest h =
         sy-pos = inside (E .sy) sy .0;
         sy-max = inside (E .sy) sy .1;
         ordered = ltb-false (E .sx) (E .sy) t5;
-        xm-max = ltb-false 10000000 (natAbs (E .xm)) xm;
-        ym-max = ltb-false 10000000 (natAbs (E .ym)) ym;
+        xm-max = ltb-false largest-length (natAbs (E .xm)) xm;
+        ym-max = ltb-false largest-length (natAbs (E .ym)) ym;
       },
       r6,
     )
 
 pub record Facts (E : Encounter) : Type 0 where
   pub bounds : Bounds E
-  pub t-max : value (side-letters true E .t) ≼ whole 64
+  pub t-max : value (side-letters true E .t) ≼ whole largest-t
 
 pub facts : {E : Encounter} → Accepted E → Facts E
-unfolding begin-refusal
+unfolding begin-refusal tests-3-to-6 refuses-7
 facts {E} h =
-    let (b, r) = bounds E _ (h .passes) in
-    record { bounds = b; t-max = at-most-holds _ _ (zero-taken _ r) }
-  where
-    zero-taken : (b : Bool) → _≡_ {A = ℕ} (cond b 0 7) 0 → b ≡ true
-    zero-taken true z = refl
-    zero-taken false z = let f : ⊥ = omega arith in absurd f
+    let (b, r) = bounds E (cond (refuses-7 E) 7 0) (h .passes) in
+    record { bounds = b; t-max = not-above _ _ (passed 6 (refuses-7 E) 0 r .0) }
 
 -- "signed where something is subtracted": for every accepted encounter g's numerator is the integer sx² − sy²
 pub g-is : {E : Encounter} → Accepted E → pos (g E .num) ≡ pos (E .sx * E .sx) -ℤ pos (E .sy * E .sy)

@@ -1,16 +1,17 @@
 -- How close the two ends are: the upper side is at most the lower side × (1 + 2^-31)^w, with w counted step by step.
 use mathlib.Core.Bool.{true, false}
-use Prim.Native.Nat.{ℕ, zero, suc, _+_, _*_, _^_, _≤_, _<_}
+use Prim.Native.Nat.{ℕ, zero, suc, pred, _+_, _*_, _^_, _≤_, _<_}
 use native.Mathlib.Bridge.{le-by-compare, IsLe}
 use native.Mathlib.Nat.{suc-pred-eq-of-pos}
 use native.Mathlib.Omega.{arith}
+use Rattle.exact.specs.Numbers.{largest-t, exponential-cut}
 use Rattle.exact.specs.Fraction.{Frac, _≼_, _⊕_, _⊗_, _÷_, _⊘_, _↑_, _over_, whole}
-use Rattle.exact.specs.Scaled.{one, value}
-use Rattle.exact.specs.Rounding.{D, U, round, slack}
-use Rattle.exact.specs.Encounter.{Encounter}
-use Rattle.exact.specs.Steps.{add, mul, div, powers, next-power}
-use Rattle.exact.specs.Bracket.{side-letters, side-start, side-terms, side-powers, sum-to, tail-bound, upper-exponential, lower-exponential, lower-end, upper-end}
-use Rattle.exact.specs.Accepted.{Accepted}
+use Rattle.exact.specs.Scaled.{one, value, D, U}
+use Rattle.exact.specs.Private.Round.{round}
+use Rattle.exact.proofs.Rounding.{slack}
+use Rattle.exact.specs.declared.Encounter.{Encounter}
+use Rattle.exact.specs.Steps.{add, mul, div, powers, next-power, side-letters, side-start, side-terms, side-powers, sum-to, tail-bound, exponential-with-tail, exponential-sum, r256, lower-end, upper-end}
+use Rattle.exact.specs.Refusals.{Accepted}
 use Rattle.exact.proofs.Fractions.{≼-refl, ≼-trans, ≼-of, ≽-of, add-mono, mul-mono, num-pos, quot-mono, quot-mul}
 use Rattle.exact.proofs.Rounding.{round-close}
 use Rattle.exact.proofs.Powers.{Near, near-of, near-more, near-plus, near-times, near-share, pow-add, pow-square, pow-more, one-le-pow, grow}
@@ -71,7 +72,7 @@ over-exact = record {
 }
 
 -- 2 × 64^256/256!, with 1,280 roundings upwards, is at most 2^-31
-tiny : whole 2 ⊗ (powers same same (whole 1) (whole 64) 256 .r ⊗ ρ ↑ 1280) ≼ 1 over (2 ^ 31)
+tiny : whole 2 ⊗ (powers same same (whole 1) (whole largest-t) exponential-cut .r ⊗ ρ ↑ 1280) ≼ 1 over (2 ^ 31)
 unfolding powers next-power div mul add slack whole _over_ _⊗_ _÷_ _↑_ IsLe
 tiny = record { le = le-by-compare _ _ tt }
 
@@ -92,20 +93,20 @@ unfolding side-powers powers next-power add
 one≼powers E zero = ≽-of one-is
 one≼powers E (suc k) = ≼-trans (one≼powers E k) (≼-trans (drop-last _ _) (up _))
 
-module _ (E : Encounter) (t≤ : value (side-letters true E .t) ≼ whole 64) where
-  r-near : Near ρ 1280 (value (side-powers true E 256 .r)) (powers same same (whole 1) (whole 64) 256 .r)
+module _ (E : Encounter) (t≤ : value (side-letters true E .t) ≼ whole largest-t) where
+  r-near : Near ρ 1280 (value (side-powers true E exponential-cut .r)) (powers same same (whole 1) (whole largest-t) exponential-cut .r)
   unfolding side-powers
   r-near =
-      powers-close value (round true 32) same same (Near ρ) over-exact one _ (whole 1) (whole 64)
+      powers-close value (round true 32) same same (Near ρ) over-exact one _ (whole 1) (whole largest-t)
       (near-of (≼-of one-is))
-      (near-more one≼ρ (omega arith) (near-of t≤)) 256 .r
+      (near-more one≼ρ (omega arith) (near-of t≤)) exponential-cut .r
 
   -- 2r(256) is within one rounding of the exponential's sum
-  small : value (side-powers true E 255 .sum) ⊕ whole 2 ⊗ value (side-powers true E 256 .r) ≼ value (side-powers true E 255 .sum) ⊗ ρ
+  small : value (side-powers true E (pred exponential-cut) .sum) ⊕ whole 2 ⊗ value (side-powers true E exponential-cut .r) ≼ value (side-powers true E (pred exponential-cut) .sum) ⊗ ρ
   small =
       ≼-trans (add-mono (≼-refl _)
       (≼-trans (mul-mono (≼-refl (whole 2)) (r-near .near))
-      (≼-trans tiny (≼-trans (one-form _) (mul-mono (one≼powers E 255) (≼-refl _))))))
+      (≼-trans tiny (≼-trans (one-form _) (mul-mono (one≼powers E (pred exponential-cut)) (≼-refl _))))))
       (split _)
 
 -- ---- the two ends
@@ -123,9 +124,9 @@ module _ (E : Encounter) where
   unfolding side-terms
   sum-near n = terms-close value (round true 32) value (round false 32) (Near (ρ ⊗ ρ)) close _ _ letters-near start-near n .sum .near
 
-  powers-near : value (side-powers true E 255 .sum) ≼ value (side-powers false E 255 .sum) ⊗ (ρ ⊗ ρ) ↑ 1276
+  powers-near : value (side-powers true E (pred exponential-cut) .sum) ≼ value (side-powers false E (pred exponential-cut) .sum) ⊗ (ρ ⊗ ρ) ↑ 1276
   unfolding side-powers
-  powers-near = powers-close value (round true 32) value (round false 32) (Near (ρ ⊗ ρ)) close one _ one _ (close .same (value one)) (letters-near .t) 255 .sum .near
+  powers-near = powers-close value (round true 32) value (round false 32) (Near (ρ ⊗ ρ)) close one _ one _ (close .same (value one)) (letters-near .t) (pred exponential-cut) .sum .near
 
 -- (p × q) / q
 mul-quot : (p q : Frac) → 0 < q .num → (p ⊗ q) ⊘ q ≼ p
@@ -151,12 +152,12 @@ six : (r : Frac) → cube r ⊗ cube r ≼ (r ⊗ r) ↑ 3
 unfolding _⊗_ _↑_ cube whole
 six r = record { le = omega arith }
 
-module _ (E : Encounter) (t≤ : value (side-letters true E .t) ≼ whole 64) (n : ℕ) (T≤ : tail-bound E (suc n) ≼ (1 over (2 ^ 31)) ⊗ value (sum-to false E (suc n))) where
+module _ (E : Encounter) (t≤ : value (side-letters true E .t) ≼ whole largest-t) (n : ℕ) (T≤ : tail-bound E (suc n) ≼ (1 over (2 ^ 31)) ⊗ value (sum-to false E (suc n))) where
   A : Frac
   A = value (sum-to false E (suc n))
 
   B : Frac
-  B = value (lower-exponential E)
+  B = value (exponential-sum false E)
 
   w : Frac
   w = (ρ ⊗ ρ) ↑ (9 * n + 1)
@@ -165,8 +166,8 @@ module _ (E : Encounter) (t≤ : value (side-letters true E .t) ≼ whole 64) (n
   z = (ρ ⊗ ρ) ↑ 1276
 
   B-pos : 0 < B .num
-  unfolding B lower-exponential
-  B-pos = lower-powers-pos E 255
+  unfolding B exponential-sum
+  B-pos = lower-powers-pos E (pred exponential-cut)
 
   -- the upper numerator is at most the lower sum × w × ρ × ρ
   numerator : value (U (value (sum-to true E (suc n)) ⊕ tail-bound E (suc n))) ≼ A ⊗ w ⊗ ρ ⊗ ρ
@@ -177,13 +178,13 @@ module _ (E : Encounter) (t≤ : value (side-letters true E .t) ≼ whole 64) (n
       ≼-trans (near-up _) (mul-mono (≼-trans (add-mono (sum-near E n) T′) (split (A ⊗ w))) (≼-refl ρ))
 
   -- the upper exponential is at most the lower × z × ρ × ρ
-  G-le : value (upper-exponential E) ≼ B ⊗ z ⊗ ρ ⊗ ρ
-  unfolding B z upper-exponential lower-exponential
+  G-le : value (exponential-with-tail E) ≼ B ⊗ z ⊗ ρ ⊗ ρ
+  unfolding B z exponential-with-tail exponential-sum r256
   G-le = ≼-trans (near-up _) (mul-mono (≼-trans (small E t≤) (mul-mono (powers-near E) (≼-refl ρ))) (≼-refl ρ))
 
-  G-pos : 0 < value (upper-exponential E) .num
-  unfolding B lower-exponential upper-exponential
-  G-pos = num-pos (≼-trans (lower-powers-le E 255) (≼-trans (le-upper-powers E 255) (≼-trans (drop-last _ _) (up _)))) B-pos
+  G-pos : 0 < value (exponential-with-tail E) .num
+  unfolding B exponential-sum exponential-with-tail r256
+  G-pos = num-pos (≼-trans (lower-powers-le E (pred exponential-cut)) (≼-trans (le-upper-powers E (pred exponential-cut)) (≼-trans (drop-last _ _) (up _)))) B-pos
 
   -- the lower sum is at most the lower end × ρ × the upper exponential
   A-le : A ≼ value (lower-end E (suc n)) ⊗ ρ ⊗ (B ⊗ z ⊗ ρ ⊗ ρ)
@@ -209,6 +210,7 @@ module _ (E : Encounter) (t≤ : value (side-letters true E .t) ≼ whole 64) (n
 
 -- Closeness, in demand 3's words: where the tail bound is at most 2^-31 of the lower sum, upper end ≤ lower end × (1 + 2^-31)^(18N + 2,600).
 pub ends-close : {E : Encounter} → Accepted E → (N : ℕ) → 1 ≤ N → tail-bound E N ≼ (1 over (2 ^ 31)) ⊗ value (sum-to false E N)
-    → value (upper-end E N) ≼ value (lower-end E N) ⊗ slack 31 ↑ (18 * N + 2600)
+    → value (upper-end E N) ≼ value (lower-end E N) ⊗ ((2 ^ 31 + 1) over (2 ^ 31)) ↑ (18 * N + 2600)
+unfolding slack
 ends-close h zero N₁ T≤ = let f : ⊥ = omega arith in absurd f
 ends-close {E} h (suc n) N₁ T≤ = ≼-trans (upper-le E (facts h .t-max) n T≤) (mul-mono (≼-refl _) (weight E (facts h .t-max) n T≤))

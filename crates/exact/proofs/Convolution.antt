@@ -5,7 +5,8 @@ use Prim.Native.Nat.{ℕ, zero, suc, _-_}
 use native.Mathlib.Nat.{sub-zero, suc-sub-suc}
 use native.Mathlib.Omega.{arith}
 use Rattle.exact.specs.Fraction.{Frac, _≼_, _≈_, _⊕_, _⊗_, _÷_, _↑_, whole, sum}
-use Rattle.exact.specs.Series.{dot, F, upto, a}
+use Rattle.exact.specs.declared.Encounter.{Encounter}
+use Rattle.exact.specs.Series.{dot, a₀, F, upto, a}
 use Rattle.exact.proofs.Fractions.{≼-refl, ≼-of, ≽-of, antisym, add-mono, mul-mono, ≈-refl, ≈-sym, ≈-trans, cong, add-cong, div-cong, add-assoc, zero-add, add-zero, mul-zero, one-mul, mul-assoc, mul-add, add-mul, div-add}
 
 pub dot-mono : {v w : ℕ → Frac} → ((k : ℕ) → v k ≼ w k) → (l : List Frac) → dot v l ≼ dot w l
@@ -90,19 +91,19 @@ unfolding sum
 sum-first f zero = ≈-trans (zero-add _) (≈-sym (add-zero _))
 sum-first f (suc n) = ≈-trans (add-cong (sum-first f n) (≈-refl (f (suc n)))) (add-assoc _ _ _)
 
-module _ (u h X Y a₀ : Frac) where
-  dot-suc : (n : ℕ) (w : ℕ → Frac) → dot w (upto u h X Y a₀ (suc n)) ≈ w 0 ⊗ a u h X Y a₀ (suc n - 0) ⊕ dot (λ k. w (suc k)) (upto u h X Y a₀ n)
+module _ (E : Encounter) where
+  dot-suc : (n : ℕ) (w : ℕ → Frac) → dot w (upto E (suc n)) ≈ w 0 ⊗ a E (suc n - 0) ⊕ dot (λ k. w (suc k)) (upto E n)
   unfolding dot upto a
   dot-suc n w = rw sub-zero (≈-refl _)
 
-  dot-is : (n : ℕ) (w : ℕ → Frac) → dot w (upto u h X Y a₀ n) ≈ sum (λ k. w k ⊗ a u h X Y a₀ (n - k)) (suc n)
-  dot-is zero w = unfold dot upto a sum in ≈-trans (add-zero (w 0 ⊗ a₀)) (≈-sym (zero-add (w 0 ⊗ a₀)))
+  dot-is : (n : ℕ) (w : ℕ → Frac) → dot w (upto E n) ≈ sum (λ k. w k ⊗ a E (n - k)) (suc n)
+  dot-is zero w = unfold dot upto a sum in ≈-trans (add-zero (w 0 ⊗ a₀ E)) (≈-sym (zero-add (w 0 ⊗ a₀ E)))
   dot-is (suc n) w =
       ≈-trans (dot-suc n w)
-      (≈-trans (add-cong (≈-refl (w 0 ⊗ a u h X Y a₀ (suc n - 0))) (≈-trans (dot-is n (λ k. w (suc k))) (sum-cong (suc n) (λ k. rw suc-sub-suc))))
-      (≈-sym (sum-first (λ k. w k ⊗ a u h X Y a₀ (suc n - k)) (suc n))))
+      (≈-trans (add-cong (≈-refl (w 0 ⊗ a E (suc n - 0))) (≈-trans (dot-is n (λ k. w (suc k))) (sum-cong (suc n) (λ k. rw suc-sub-suc))))
+      (≈-sym (sum-first (λ k. w k ⊗ a E (suc n - k)) (suc n))))
 
   -- a(n+1) = (F(0)a(n) + .. + F(n)a(0))/(n+1)
-  pub a-suc : (n : ℕ) → a u h X Y a₀ (suc n) ≈ sum (λ k. F u h X Y k ⊗ a u h X Y a₀ (n - k)) (suc n) ÷ suc n
+  pub a-suc : (n : ℕ) → a E (suc n) ≈ sum (λ k. F E k ⊗ a E (n - k)) (suc n) ÷ suc n
   unfolding upto a
-  a-suc n = div-cong (suc n) (dot-is n (F u h X Y))
+  a-suc n = div-cong (suc n) (dot-is n (F E))

@@ -1,22 +1,23 @@
 -- The enclosure: for every accepted encounter, every order N with 2M ≤ N + 2 and every later cut of the two exact sums, their quotient lies between the ends.
 use mathlib.Core.Path.{_≡_, refl}
 use mathlib.Core.Bool.{true, false}
-use Prim.Native.Nat.{ℕ, zero, suc, _+_, _*_, _≤_, _<_}
+use Prim.Native.Nat.{ℕ, zero, suc, pred, _+_, _*_, _≤_, _<_}
 use native.Mathlib.Nat.{le-dest, add-suc, add-zero as plus-zero, mul-le-mul-left, lt-of-mul-lt-mul-right}
 use native.Mathlib.Numerals.{add-two}
 use native.Mathlib.Omega.{arith}
 use lib.Dec.{lit<}
+use Rattle.exact.specs.Numbers.{largest-t, exponential-cut}
 use Rattle.exact.specs.Fraction.{Frac, _≼_, _≈_, _⊕_, _⊗_, _÷_, _⊘_, _↑_, _over_, whole, sum}
-use Rattle.exact.specs.Scaled.{one, value}
-use Rattle.exact.specs.Rounding.{D, U, round, slack}
-use Rattle.exact.specs.Encounter.{Encounter, u, g, h, X, Y, t, a₀}
-use Rattle.exact.specs.Series.{factorial, exponential-term, series, exponential, quotient}
-use Rattle.exact.specs.Steps.{add, start, powers, next-power, bound, tail-term, next-d, mul, div}
-use Rattle.exact.specs.Bracket.{side-letters, side-start, side-terms, side-powers, sum-to, M, d, tail-bound, upper-exponential, lower-exponential, lower-end, upper-end, readable}
-use Rattle.exact.specs.Accepted.{Accepted}
+use Rattle.exact.specs.Scaled.{one, value, D, U}
+use Rattle.exact.specs.Private.Round.{round}
+use Rattle.exact.proofs.Rounding.{slack}
+use Rattle.exact.specs.declared.Encounter.{Encounter}
+use Rattle.exact.specs.Series.{u, g, h, X, Y, t, a₀, factorial, exponential-term, series, exponential, quotient}
+use Rattle.exact.specs.Steps.{add, start, powers, next-power, bound, tail-term, next-d, mul, div, side-letters, side-start, side-terms, side-powers, sum-to, M, d, tail-bound, exponential-with-tail, exponential-sum, r256, lower-end, upper-end}
+use Rattle.exact.specs.Refusals.{refuses-23, Accepted}
 use Rattle.exact.proofs.Fractions.{≼-refl, ≼-trans, ≼-of, ≽-of, add-mono, mul-mono, div-mono, num-pos, quot-mono}
 use Rattle.exact.proofs.Rounding.{round-is, round-close}
-use Rattle.exact.proofs.Order.{at-most-holds}
+use Rattle.exact.proofs.Order.{not-above}
 use Rattle.exact.proofs.Unrounded.{same, exact-letters, letters-are, sum-is, powers-are}
 use Rattle.exact.proofs.Majorant.{m, exact-d, series-tail, exponential-tail}
 use Rattle.exact.proofs.Parallel.{Within, Close-letters, letters-close, start-close, terms-close, bound-close, tail-close, powers-close}
@@ -130,12 +131,12 @@ module _ (E : Encounter) where
   unfolding side-terms series
   lower-sum-le n =
       ≼-trans (terms-close value (round false 32) same same (λ w p q. p ≼ q) below _ _ lower-letters lower-start n .sum)
-      (≼-of (sum-is (u E) (h E) (X E) (Y E) (a₀ E) (t E) n))
+      (≼-of (sum-is E n))
 
   le-upper-sum : (n : ℕ) → series E (suc n) ≼ value (side-terms true E n .sum)
   unfolding side-terms series
   le-upper-sum n =
-      ≼-trans (≽-of (sum-is (u E) (h E) (X E) (Y E) (a₀ E) (t E) n))
+      ≼-trans (≽-of (sum-is E n))
       (terms-close same same value (round true 32) (λ w p q. p ≼ q) above _ _ upper-letters upper-start n .sum)
 
   pub lower-powers-le : (k : ℕ) → value (side-powers false E k .sum) ≼ exponential E (suc k)
@@ -170,46 +171,46 @@ module _ (E : Encounter) where
   unfolding series
   series-longer n N′ l = sum-longer _ n N′ l
 
-  exponential-longer : (K : ℕ) → 256 ≤ K → exponential E 256 ≼ exponential E K
+  exponential-longer : (K : ℕ) → exponential-cut ≤ K → exponential E exponential-cut ≼ exponential E K
   unfolding exponential
-  exponential-longer K l = sum-longer _ 256 K l
+  exponential-longer K l = sum-longer _ exponential-cut K l
 
   series-bound : (N N′ : ℕ) → whole 2 ⊗ value (M E) ≼ whole (suc (suc N)) → N ≤ N′ → series E N′ ≼ series E N ⊕ tail-bound E N
   unfolding series tail-bound
   series-bound N N′ l k =
-      ≼-trans (series-tail (u E) (h E) (X E) (Y E) (a₀ E) (value (M E)) (h-le-u E) m-le-M N l N′ k) (add-mono (≼-refl _) (mul-mono (≼-refl (whole 2)) (le-d N)))
+      ≼-trans (series-tail E (value (M E)) (h-le-u E) m-le-M N l N′ k) (add-mono (≼-refl _) (mul-mono (≼-refl (whole 2)) (le-d N)))
 
-  exponential-bound : (K : ℕ) → 256 ≤ K → value (side-letters true E .t) ≼ whole 64 → exponential E K ≼ exponential E 256 ⊕ whole 2 ⊗ value (side-powers true E 256 .r)
+  exponential-bound : (K : ℕ) → exponential-cut ≤ K → value (side-letters true E .t) ≼ whole largest-t → exponential E K ≼ exponential E exponential-cut ⊕ whole 2 ⊗ value (side-powers true E exponential-cut .r)
   unfolding exponential
-  exponential-bound K l t≤ = ≼-trans (exponential-tail (t E) (≼-trans (upper-letters .t) t≤) K l) (add-mono (≼-refl _) (mul-mono (≼-refl (whole 2)) (le-upper-r 256)))
+  exponential-bound K l t≤ = ≼-trans (exponential-tail (t E) (≼-trans (upper-letters .t) t≤) K l) (add-mono (≼-refl _) (mul-mono (≼-refl (whole 2)) (le-upper-r exponential-cut)))
 
   -- ---- the quotient between the ends
 
-  module _ (n N′ K : ℕ) (N≤ : suc n ≤ N′) (K≤ : 256 ≤ K) where
-    lower-end-le : value (side-letters true E .t) ≼ whole 64 → value (lower-end E (suc n)) ≼ series E N′ ⊘ exponential E K
-    unfolding lower-end sum-to upper-exponential
+  module _ (n N′ K : ℕ) (N≤ : suc n ≤ N′) (K≤ : exponential-cut ≤ K) where
+    lower-end-le : value (side-letters true E .t) ≼ whole largest-t → value (lower-end E (suc n)) ≼ series E N′ ⊘ exponential E K
+    unfolding lower-end sum-to exponential-with-tail exponential-sum r256
     lower-end-le t≤ =
         ≼-trans (down _)
         (quot-mono (≼-trans (lower-sum-le n) (series-longer (suc n) N′ N≤))
-        (≼-trans (exponential-bound K K≤ t≤) (≼-trans (add-mono (le-upper-powers 255) (≼-refl _)) (up _)))
+        (≼-trans (exponential-bound K K≤ t≤) (≼-trans (add-mono (le-upper-powers (pred exponential-cut)) (≼-refl _)) (up _)))
         (exponential-pos E K (omega arith)))
 
     le-upper-end : whole 2 ⊗ value (M E) ≼ whole (suc (suc (suc n))) → series E N′ ⊘ exponential E K ≼ value (upper-end E (suc n))
-    unfolding upper-end sum-to lower-exponential
+    unfolding upper-end sum-to exponential-sum
     le-upper-end M≤ =
         ≼-trans
         (quot-mono
         (≼-trans (series-bound (suc n) N′ M≤ N≤) (≼-trans (add-mono (le-upper-sum n) (≼-refl _)) (up _)))
-        (≼-trans (lower-powers-le 255) (exponential-longer K K≤))
-        (lower-powers-pos E 255))
+        (≼-trans (lower-powers-le (pred exponential-cut)) (exponential-longer K K≤))
+        (lower-powers-pos E (pred exponential-cut)))
         (up _)
 
 -- The enclosure. N ≥ 1 is any order with 2M ≤ N + 2; N′ and K are the two later cuts, chosen independently.
-pub enclosed : {E : Encounter} → Accepted E → (N : ℕ) → 1 ≤ N → readable E N ≡ true → (N′ K : ℕ) → N ≤ N′ → 256 ≤ K
+pub enclosed : {E : Encounter} → Accepted E → (N : ℕ) → 1 ≤ N → refuses-23 E N ≡ false → (N′ K : ℕ) → N ≤ N′ → exponential-cut ≤ K
     → (value (lower-end E N) ≼ quotient E N′ K) × (quotient E N′ K ≼ value (upper-end E N))
 unfolding quotient
 enclosed h zero N₁ r N′ K l k = let f : ⊥ = omega arith in absurd f
 enclosed {E} h (suc n) N₁ r N′ K l k = (lower-end-le E n N′ K l k (facts h .t-max), le-upper-end E n N′ K l k M≤)
   where
     M≤ : whole 2 ⊗ value (M E) ≼ whole (suc (suc (suc n)))
-    M≤ = rw add-two at (at-most-holds (whole 2 ⊗ value (M E)) (whole (suc n + 2)) (unfold readable in r))
+    M≤ = rw add-two at (not-above (whole 2 ⊗ value (M E)) (whole (suc n + 2)) (unfold refuses-23 in r))

@@ -5,7 +5,8 @@ use Prim.Native.Nat.{ℕ, zero, suc, _*_, _<_}
 use native.Mathlib.Nat.{zero-lt-suc, mul-pos}
 use native.Mathlib.Omega.{arith}
 use Rattle.exact.specs.Fraction.{Frac, _≈_, _⊕_, _⊗_, _÷_, _↑_, whole}
-use Rattle.exact.specs.Series.{factorial, dot, F-without-Y, F, upto, a, c}
+use Rattle.exact.specs.declared.Encounter.{Encounter}
+use Rattle.exact.specs.Series.{factorial, dot, u, h, X, Y, a₀, F-without-Y, F, upto, a, c}
 use Rattle.exact.proofs.Fractions.{≈-refl, ≈-sym, ≈-trans, cong, add-cong, mul-cong, mul-assoc, div-add, div-mul, div-cong, div-div, div-twice}
 use Rattle.exact.proofs.Convolution.{dot-cong, dot-add, dot-scale, dot-div, p-cons, v-cons, y-cons}
 
@@ -32,46 +33,46 @@ split-F : (w x Y r : Frac) → (w ⊕ Y) ⊗ x ⊕ r ≈ w ⊗ x ⊕ r ⊕ Y ⊗
 unfolding _⊕_ _⊗_
 split-F w x Y r = record { eq = omega arith }
 
-F-cons : (u h X Y x : Frac) (l : List Frac) → dot (F u h X Y) (x ∷ l) ≈ dot (F-without-Y u h X Y) (x ∷ l) ⊕ Y ⊗ x
+F-cons : (E : Encounter) (x : Frac) (l : List Frac) → dot (F E) (x ∷ l) ≈ dot (F-without-Y E) (x ∷ l) ⊕ Y E ⊗ x
 unfolding dot F
-F-cons u h X Y x l = split-F (F-without-Y u h X Y 0) x Y (dot (λ k. F-without-Y u h X Y (suc k)) l)
+F-cons E x l = split-F (F-without-Y E 0) x (Y E) (dot (λ k. F-without-Y E (suc k)) l)
 
-F-without-Y-dot : (u h X Y : Frac) (l : List Frac) → dot (F-without-Y u h X Y) l ≈ dot (λ k. u ↑ suc k) l ⊕ h ⊗ dot (λ k. h ↑ k) l ÷ 2 ⊕ X ⊗ dot (λ k. whole (suc k) ⊗ h ↑ k) l
+F-without-Y-dot : (E : Encounter) (l : List Frac) → dot (F-without-Y E) l ≈ dot (λ k. u E ↑ suc k) l ⊕ h E ⊗ dot (λ k. h E ↑ k) l ÷ 2 ⊕ X E ⊗ dot (λ k. whole (suc k) ⊗ h E ↑ k) l
 unfolding F-without-Y
-F-without-Y-dot u h X Y l =
+F-without-Y-dot E l =
     grw (
       cong,
-      dot-add (λ k. u ↑ suc k ⊕ h ↑ suc k ÷ 2) (λ k. X ⊗ whole (suc k) ⊗ h ↑ k) l,
-      dot-add (λ k. u ↑ suc k) (λ k. h ↑ suc k ÷ 2) l,
-      dot-div 2 (λ k. h ↑ suc k) l,
+      dot-add (λ k. u E ↑ suc k ⊕ h E ↑ suc k ÷ 2) (λ k. X E ⊗ whole (suc k) ⊗ h E ↑ k) l,
+      dot-add (λ k. u E ↑ suc k) (λ k. h E ↑ suc k ÷ 2) l,
+      dot-div 2 (λ k. h E ↑ suc k) l,
       powers,
-      dot-cong (λ k. mul-assoc X (whole (suc k)) (h ↑ k)) l,
-      dot-scale X (λ k. whole (suc k) ⊗ h ↑ k) l,
+      dot-cong (λ k. mul-assoc (X E) (whole (suc k)) (h E ↑ k)) l,
+      dot-scale (X E) (λ k. whole (suc k) ⊗ h E ↑ k) l,
     ) (≈-refl _)
   where
-    powers : dot (λ k. h ↑ suc k) l ≈ h ⊗ dot (λ k. h ↑ k) l
-    powers = unfold _↑_ in dot-scale h (λ k. h ↑ k) l
+    powers : dot (λ k. h E ↑ suc k) l ≈ h E ⊗ dot (λ k. h E ↑ k) l
+    powers = unfold _↑_ in dot-scale (h E) (λ k. h E ↑ k) l
 
-module _ (u h X Y a₀ : Frac) where
+module _ (E : Encounter) where
   -- the list that ends in a(n) begins with it
   before : ℕ → List Frac
   before zero = []
-  before (suc n) = upto u h X Y a₀ n
+  before (suc n) = upto E n
 
-  upto-is : (n : ℕ) → upto u h X Y a₀ n ≡ a u h X Y a₀ n ∷ before n
+  upto-is : (n : ℕ) → upto E n ≡ a E n ∷ before n
   unfolding upto a before
   upto-is zero = refl
   upto-is (suc n) = refl
 
   -- the three sums of a step, before the factorial
   p-sum : ℕ → Frac
-  p-sum n = dot (λ k. u ↑ suc k) (upto u h X Y a₀ n)
+  p-sum n = dot (λ k. u E ↑ suc k) (upto E n)
 
   v-sum : ℕ → Frac
-  v-sum n = dot (λ k. h ↑ k) (upto u h X Y a₀ n)
+  v-sum n = dot (λ k. h E ↑ k) (upto E n)
 
   y-sum : ℕ → Frac
-  y-sum n = dot (λ k. whole (suc k) ⊗ h ↑ k) (upto u h X Y a₀ n)
+  y-sum n = dot (λ k. whole (suc k) ⊗ h E ↑ k) (upto E n)
 
   -- the exact p(n), v(n), y(n)
   pub p : ℕ → Frac
@@ -83,49 +84,49 @@ module _ (u h X Y a₀ : Frac) where
   pub y : ℕ → Frac
   y n = y-sum n ÷ factorial (suc n)
 
-  pub p-suc : (n : ℕ) → p (suc n) ≈ u ⊗ (c u h X Y a₀ (suc n) ⊕ p n ÷ suc (suc n))
+  pub p-suc : (n : ℕ) → p (suc n) ≈ u E ⊗ (c E (suc n) ⊕ p n ÷ suc (suc n))
   unfolding p p-sum c upto a
-  p-suc n = ≈-trans (div-cong (factorial (suc (suc n))) (p-cons u (a u h X Y a₀ (suc n)) (upto u h X Y a₀ n))) (≈-trans (≈-sym (div-mul u _ (factorial (suc (suc n))))) (mul-cong (≈-refl u) (one-more _ _ n)))
+  p-suc n = ≈-trans (div-cong (factorial (suc (suc n))) (p-cons (u E) (a E (suc n)) (upto E n))) (≈-trans (≈-sym (div-mul (u E) _ (factorial (suc (suc n))))) (mul-cong (≈-refl (u E)) (one-more _ _ n)))
 
-  pub v-suc : (n : ℕ) → v (suc n) ≈ c u h X Y a₀ (suc n) ⊕ h ⊗ v n ÷ suc (suc n)
+  pub v-suc : (n : ℕ) → v (suc n) ≈ c E (suc n) ⊕ h E ⊗ v n ÷ suc (suc n)
   unfolding v v-sum c upto a
-  v-suc n = ≈-trans (div-cong (factorial (suc (suc n))) (v-cons h (a u h X Y a₀ (suc n)) (upto u h X Y a₀ n))) (scaled-more _ h _ n)
+  v-suc n = ≈-trans (div-cong (factorial (suc (suc n))) (v-cons (h E) (a E (suc n)) (upto E n))) (scaled-more _ (h E) _ n)
 
-  pub y-suc : (n : ℕ) → y (suc n) ≈ v (suc n) ⊕ h ⊗ y n ÷ suc (suc n)
+  pub y-suc : (n : ℕ) → y (suc n) ≈ v (suc n) ⊕ h E ⊗ y n ÷ suc (suc n)
   unfolding y v v-sum y-sum c upto a
-  y-suc n = ≈-trans (div-cong (factorial (suc (suc n))) (y-cons h (a u h X Y a₀ (suc n)) (upto u h X Y a₀ n))) (scaled-more _ h _ n)
+  y-suc n = ≈-trans (div-cong (factorial (suc (suc n))) (y-cons (h E) (a E (suc n)) (upto E n))) (scaled-more _ (h E) _ n)
 
-  pub p-zero : p 0 ≈ u ⊗ c u h X Y a₀ 0
+  pub p-zero : p 0 ≈ u E ⊗ c E 0
   unfolding p p-sum c upto a dot _↑_ factorial _⊕_ _⊗_ _÷_ whole
   p-zero = record { eq = omega arith }
 
-  pub v-zero : v 0 ≈ c u h X Y a₀ 0
+  pub v-zero : v 0 ≈ c E 0
   unfolding v v-sum c upto a dot _↑_ factorial _⊕_ _⊗_ _÷_ whole
   v-zero = record { eq = omega arith }
 
-  pub y-zero : y 0 ≈ c u h X Y a₀ 0
+  pub y-zero : y 0 ≈ c E 0
   unfolding y y-sum c upto a dot _↑_ factorial _⊕_ _⊗_ _÷_ whole
   y-zero = record { eq = omega arith }
 
-  pub c-zero : a₀ ≈ c u h X Y a₀ 0
+  pub c-zero : a₀ E ≈ c E 0
   unfolding c upto a factorial _÷_
   c-zero = record { eq = omega arith }
 
-  F-dot : (n : ℕ) → dot (F u h X Y) (upto u h X Y a₀ n) ≈ p-sum n ⊕ h ⊗ v-sum n ÷ 2 ⊕ X ⊗ y-sum n ⊕ Y ⊗ a u h X Y a₀ n
+  F-dot : (n : ℕ) → dot (F E) (upto E n) ≈ p-sum n ⊕ h E ⊗ v-sum n ÷ 2 ⊕ X E ⊗ y-sum n ⊕ Y E ⊗ a E n
   unfolding p-sum v-sum y-sum
   F-dot n =
-      let e : dot (F u h X Y) (upto u h X Y a₀ n) ≈ dot (F-without-Y u h X Y) (upto u h X Y a₀ n) ⊕ Y ⊗ a u h X Y a₀ n = rw upto-is (F-cons u h X Y (a u h X Y a₀ n) (before n)) in
-      ≈-trans e (add-cong (F-without-Y-dot u h X Y (upto u h X Y a₀ n)) (≈-refl _))
+      let e : dot (F E) (upto E n) ≈ dot (F-without-Y E) (upto E n) ⊕ Y E ⊗ a E n = rw upto-is (F-cons E (a E n) (before n)) in
+      ≈-trans e (add-cong (F-without-Y-dot E (upto E n)) (≈-refl _))
 
-  spread : (m : ℕ) (q r s t : Frac) → (q ⊕ h ⊗ r ÷ 2 ⊕ X ⊗ s ⊕ Y ⊗ t) ÷ m ≈ q ÷ m ⊕ h ⊗ (r ÷ m) ÷ 2 ⊕ X ⊗ (s ÷ m) ⊕ Y ⊗ (t ÷ m)
+  spread : (m : ℕ) (q r s t : Frac) → (q ⊕ h E ⊗ r ÷ 2 ⊕ X E ⊗ s ⊕ Y E ⊗ t) ÷ m ≈ q ÷ m ⊕ h E ⊗ (r ÷ m) ÷ 2 ⊕ X E ⊗ (s ÷ m) ⊕ Y E ⊗ (t ÷ m)
   spread m q r s t =
-      grw (cong, div-add, div-add, div-add, div-div (h ⊗ r) 2 m, ≈-sym (div-mul h r m), ≈-sym (div-mul X s m), ≈-sym (div-mul Y t m)) (≈-refl _)
+      grw (cong, div-add, div-add, div-add, div-div (h E ⊗ r) 2 m, ≈-sym (div-mul (h E) r m), ≈-sym (div-mul (X E) s m), ≈-sym (div-mul (Y E) t m)) (≈-refl _)
 
-  pub c-suc : (n : ℕ) → c u h X Y a₀ (suc n) ≈ (p n ⊕ h ⊗ v n ÷ 2 ⊕ X ⊗ y n ⊕ Y ⊗ c u h X Y a₀ n) ÷ (suc n * suc (suc n))
+  pub c-suc : (n : ℕ) → c E (suc n) ≈ (p n ⊕ h E ⊗ v n ÷ 2 ⊕ X E ⊗ y n ⊕ Y E ⊗ c E n) ÷ (suc n * suc (suc n))
   unfolding c p v y upto a
   c-suc n =
-      let D = dot (F u h X Y) (upto u h X Y a₀ n) in
+      let D = dot (F E) (upto E n) in
       ≈-trans (factorial-step (D ÷ suc n) (suc n))
       (≈-trans (div-cong (suc (suc n)) (div-div D (suc n) (factorial (suc n))))
       (≈-trans (div-twice (D ÷ factorial (suc n)) (zero-lt-suc n) (zero-lt-suc (suc n)))
-      (div-cong (suc n * suc (suc n)) (≈-trans (div-cong (factorial (suc n)) (F-dot n)) (spread (factorial (suc n)) (p-sum n) (v-sum n) (y-sum n) (a u h X Y a₀ n))))))
+      (div-cong (suc n * suc (suc n)) (≈-trans (div-cong (factorial (suc n)) (F-dot n)) (spread (factorial (suc n)) (p-sum n) (v-sum n) (y-sum n) (a E n))))))

@@ -6,16 +6,17 @@ use native.Mathlib.Nat.{mul-le-mul, mul-pos, zero-lt-suc}
 use native.Mathlib.Omega.{arith}
 use lib.Dec.{lit<}
 use lib.IntN.{natAbs}
+use Rattle.exact.specs.Numbers.{largest-length, largest-order}
 use Rattle.exact.specs.declared.Scaled.{Scaled}
 use Rattle.exact.specs.Fraction.{_⊕_, _÷_, _over_}
-use Rattle.exact.specs.Scaled.{value, InRange}
-use Rattle.exact.specs.Rounding.{round}
-use Rattle.exact.specs.Encounter.{Encounter, square, u, b, zx, zy, g, a₀}
-use Rattle.exact.specs.Steps.{Letters, Terms, add, mul, div, letters, start, first, next-c, next-p, next-v, next-y, next, terms, bound, next-d, tail-term, next-power, powers}
-use Rattle.exact.specs.Ranges.{Letters-in, Terms-in, Powers-in}
+use Rattle.exact.specs.Scaled.{value}
+use Rattle.exact.specs.Private.Ranges.{InRange, Letters-in, Terms-in, Powers-in, Bounds}
+use Rattle.exact.specs.Private.Round.{round}
+use Rattle.exact.specs.declared.Encounter.{Encounter}
+use Rattle.exact.specs.Series.{square, u, b, zx, zy, g, a₀}
+use Rattle.exact.specs.Steps.{LettersOf, TermsOf, add, mul, div, letters, start, first, next-c, next-p, next-v, next-y, next, terms, bound, next-d, tail-term, next-power, powers}
 use Rattle.exact.proofs.Order.{sum-half}
 use Rattle.exact.proofs.Ranges.{widen, product-range, sum-range, over-range, ratio-range, half-range}
-use Rattle.exact.specs.Accepted.{Bounds}
 
 module _ (up : Bool) where
   pub add-in : {A : ℕ} {x y : Scaled} → InRange 32 A x → InRange 32 A y → InRange 32 (A + 1 + 1) (add value (round up 32) x y)
@@ -33,17 +34,17 @@ module _ (up : Bool) where
   pub half-in : {A : ℕ} {x y : Scaled} → InRange 32 A x → InRange 32 A y → InRange 32 (A + 1 + 1 + 1) (round up 32 (value x ⊕ value y ÷ 2))
   half-in {A} {x} {y} h k = rw (sum-half up 32 x y (lit< tt)) (sum-range up 32 (lit< tt) (widen (omega arith) h) (half-range k))
 
-  module _ (l : Letters Scaled) (i : Letters-in l) where
+  module _ (l : LettersOf Scaled) (i : Letters-in l) where
     -- ---- the terms
 
     -- the divisors fit
-    small : (n : ℕ) → n < 4096 → suc n * suc (suc n) ≤ 2 ^ 32
+    small : (n : ℕ) → n < largest-order → suc n * suc (suc n) ≤ 2 ^ 32
     small n h =
-        let a : suc n ≤ 4096 = h in
-        let b : suc (suc n) ≤ 4097 = omega arith in
+        let a : suc n ≤ largest-order = h in
+        let b : suc (suc n) ≤ suc largest-order = omega arith in
         omega (arith, mul-le-mul a b)
 
-    pub c-in : (B n : ℕ) {s : Terms Scaled} → n < 4096 → Terms-in B s → InRange 32 (B + 460) (next-c value (round up 32) l n s)
+    pub c-in : (B n : ℕ) {s : TermsOf Scaled} → n < largest-order → Terms-in B s → InRange 32 (B + 460) (next-c value (round up 32) l n s)
     unfolding next-c
     c-in B n {s} nl k =
         widen (omega arith)
@@ -54,7 +55,7 @@ module _ (up : Bool) where
         (widen (omega arith) (mul-in (i .X) (k .y)))))
         (widen (omega arith) (mul-in (i .Y) (k .c)))))
 
-    next-in : (B n : ℕ) {s : Terms Scaled} → n < 4096 → Terms-in B s → Terms-in (B + 700) (next value (round up 32) l n s)
+    next-in : (B n : ℕ) {s : TermsOf Scaled} → n < largest-order → Terms-in B s → Terms-in (B + 700) (next value (round up 32) l n s)
     unfolding next next-p next-v next-y
     next-in B n {s} nl k =
         let c = c-in B n nl k in
@@ -69,7 +70,7 @@ module _ (up : Bool) where
           sum = widen (omega arith) (add-in (widen {B = B + 460} (omega arith) (k .sum)) c);
         }
 
-    pub terms-in : {c₀ : Scaled} → InRange 32 177 c₀ → (n : ℕ) → n ≤ 4096 → Terms-in (700 * n + 400) (terms value (round up 32) l c₀ n)
+    pub terms-in : {c₀ : Scaled} → InRange 32 177 c₀ → (n : ℕ) → n ≤ largest-order → Terms-in (700 * n + 400) (terms value (round up 32) l c₀ n)
     unfolding terms first
     terms-in z zero nl =
         let c₀ = widen {B = 400} (omega arith) z in
@@ -87,14 +88,14 @@ module _ (up : Bool) where
         widen (omega arith)
         (add-in (add-in (half-in (widen {B = 387} (omega arith) (i .u)) (i .h)) (widen {B = 387 + 1 + 1 + 1} (omega arith) (i .X))) (widen {B = 387 + 1 + 1 + 1 + 1 + 1} (omega arith) (i .Y)))
 
-  pub tail-in : {c₀ M : Scaled} → InRange 32 177 c₀ → InRange 32 400 M → (n : ℕ) → n ≤ 4096 → InRange 32 (700 * n + 400) (tail-term value (round up 32) c₀ M n)
+  pub tail-in : {c₀ M : Scaled} → InRange 32 177 c₀ → InRange 32 400 M → (n : ℕ) → n ≤ largest-order → InRange 32 (700 * n + 400) (tail-term value (round up 32) c₀ M n)
   unfolding tail-term next-d
   tail-in z m zero nl = widen (omega arith) z
   tail-in z m (suc n) nl = widen (omega arith) (div-in (suc (suc n)) (zero-lt-suc (suc n)) (omega arith) (mul-in (tail-in z m n (omega arith)) m))
 
   -- ---- r(k) and its sum
 
-  pub powers-in : (one t : Scaled) → InRange 32 400 one → InRange 32 387 t → (k : ℕ) → k ≤ 4096 → Powers-in (700 * k + 400) (powers value (round up 32) one t k)
+  pub powers-in : (one t : Scaled) → InRange 32 400 one → InRange 32 387 t → (k : ℕ) → k ≤ largest-order → Powers-in (700 * k + 400) (powers value (round up 32) one t k)
   unfolding powers next-power
   powers-in one t o i zero kl = record { r = o; sum = o }
   powers-in one t o i (suc k) kl =
@@ -104,7 +105,7 @@ module _ (up : Bool) where
 
   -- ---- an accepted encounter's letters
 
-  square-max : (n : ℕ) → n ≤ 10000000 → n * n < 2 ^ 48
+  square-max : (n : ℕ) → n ≤ largest-length → n * n < 2 ^ 48
   square-max n l = omega (arith, mul-le-mul l l)
 
   ratio-in : (n d : ℕ) → n < 2 ^ 48 → d < 2 ^ 48 → 0 < d → InRange 32 177 (round up 32 (n over d))

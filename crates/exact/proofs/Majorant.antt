@@ -3,7 +3,9 @@ use Prim.Native.Nat.{ℕ, zero, suc, _+_, _≤_}
 use native.Mathlib.Nat.{add-suc, add-zero as plus-zero, le-add-right, le-dest}
 use native.Mathlib.Omega.{arith}
 use Rattle.exact.specs.Fraction.{Frac, _≼_, _≈_, _⊕_, _⊗_, _÷_, _↑_, whole, sum}
-use Rattle.exact.specs.Series.{factorial, dot, F-without-Y, F, upto, a, c, exponential-term}
+use Rattle.exact.specs.declared.Encounter.{Encounter}
+use Rattle.exact.specs.Numbers.{largest-t, exponential-cut}
+use Rattle.exact.specs.Series.{factorial, dot, u, h, X, Y, a₀, F-without-Y, F, upto, a, c, exponential-term}
 use Rattle.exact.proofs.Fractions.{≼-refl, ≼-trans, ≼-of, ≽-of, add-mono, mul-mono, div-mono, pow-mono, mono, ≈-refl, ≈-sym, ≈-trans, cong, div-cong, mul-assoc, mul-add}
 use Rattle.exact.proofs.ExactTerms.{factorial-step}
 use Rattle.exact.proofs.Unrounded.{power-step}
@@ -48,21 +50,21 @@ unfolding m _⊕_ _⊗_ _÷_ whole
 m-assoc u h X Y = record { le = omega arith }
 
 -- F(k) with Y in every place
-F-wide : (u h X Y : Frac) (k : ℕ) → F u h X Y k ≼ F-without-Y u h X Y k ⊕ whole (suc k) ⊗ (u ↑ k ⊗ Y)
+F-wide : (E : Encounter) (k : ℕ) → F E k ≼ F-without-Y E k ⊕ whole (suc k) ⊗ (u E ↑ k ⊗ Y E)
 unfolding F _↑_
-F-wide u h X Y zero = add-mono (≼-refl _) (unfold _⊗_ whole in record { le = omega arith })
-F-wide u h X Y (suc k) = unfold _⊕_ in record { le = omega arith }
+F-wide E zero = add-mono (≼-refl _) (unfold _⊗_ whole in record { le = omega arith })
+F-wide E (suc k) = unfold _⊕_ in record { le = omega arith }
 
-pub F-le : (u h X Y : Frac) → h ≼ u → (k : ℕ) → F u h X Y k ≼ m u h X Y ↑ suc k
-F-le u h X Y l k =
-    ≼-trans (F-wide u h X Y k)
-    (≼-trans raised (≼-trans (gather k u h X Y (u ↑ k)) (≼-trans power (pow-mono (suc k) (m-assoc u h X Y)))))
+pub F-le : (E : Encounter) → h E ≼ u E → (k : ℕ) → F E k ≼ m (u E) (h E) (X E) (Y E) ↑ suc k
+F-le E l k =
+    ≼-trans (F-wide E k)
+    (≼-trans raised (≼-trans (gather k (u E) (h E) (X E) (Y E) (u E ↑ k)) (≼-trans power (pow-mono (suc k) (m-assoc (u E) (h E) (X E) (Y E))))))
   where
-    raised : F-without-Y u h X Y k ⊕ whole (suc k) ⊗ (u ↑ k ⊗ Y) ≼ u ⊗ u ↑ k ⊕ h ⊗ u ↑ k ÷ 2 ⊕ X ⊗ whole (suc k) ⊗ u ↑ k ⊕ whole (suc k) ⊗ (u ↑ k ⊗ Y)
+    raised : F-without-Y E k ⊕ whole (suc k) ⊗ (u E ↑ k ⊗ Y E) ≼ u E ⊗ u E ↑ k ⊕ h E ⊗ u E ↑ k ÷ 2 ⊕ X E ⊗ whole (suc k) ⊗ u E ↑ k ⊕ whole (suc k) ⊗ (u E ↑ k ⊗ Y E)
     raised = unfold F-without-Y _↑_ in grw (mono, pow-mono k l, pow-mono k l) (≼-refl _)
 
-    power : u ⊗ u ↑ k ⊕ whole (suc k) ⊗ (u ↑ k ⊗ (h ÷ 2 ⊕ X ⊕ Y)) ≼ (u ⊕ (h ÷ 2 ⊕ X ⊕ Y)) ↑ suc k
-    power = unfold _↑_ in binomial u (h ÷ 2 ⊕ X ⊕ Y) k
+    power : u E ⊗ u E ↑ k ⊕ whole (suc k) ⊗ (u E ↑ k ⊗ (h E ÷ 2 ⊕ X E ⊕ Y E)) ≼ (u E ⊕ (h E ÷ 2 ⊕ X E ⊕ Y E)) ↑ suc k
+    power = unfold _↑_ in binomial (u E) (h E ÷ 2 ⊕ X E ⊕ Y E) k
 
 -- ---- a(n) is at most a(0)M^n
 
@@ -82,17 +84,17 @@ last : (q x : Frac) → q ⊗ whole 1 ⊗ x ⊕ whole 0 ≼ whole 1 ⊗ (q ⊗ (
 unfolding _⊕_ _⊗_ whole
 last q x = record { le = omega arith }
 
-module _ (u h X Y a₀ M : Frac) (F≼ : (k : ℕ) → F u h X Y k ≼ M ⊗ M ↑ k) where
-  dot-le : (n : ℕ) (w : ℕ → Frac) (q : Frac) → ((k : ℕ) → w k ≼ q ⊗ M ↑ k) → dot w (upto u h X Y a₀ n) ≼ whole (suc n) ⊗ (q ⊗ (a₀ ⊗ M ↑ n))
+module _ (E : Encounter) (M : Frac) (F≼ : (k : ℕ) → F E k ≼ M ⊗ M ↑ k) where
+  dot-le : (n : ℕ) (w : ℕ → Frac) (q : Frac) → ((k : ℕ) → w k ≼ q ⊗ M ↑ k) → dot w (upto E n) ≼ whole (suc n) ⊗ (q ⊗ (a₀ E ⊗ M ↑ n))
   unfolding upto dot _↑_
-  dot-le zero w q l = grw (mono, l 0) (last q a₀)
+  dot-le zero w q l = grw (mono, l 0) (last q (a₀ E))
   dot-le (suc n) w q l =
-      grw (mono, dot-le n (λ k. w (suc k)) (q ⊗ M) (λ k. ≼-trans (l (suc k)) (≽-of (mul-assoc q M (M ↑ k)))), l 0, one-step, dot-le n (F u h X Y) M F≼, cancel) (more n q a₀ M (M ↑ n))
+      grw (mono, dot-le n (λ k. w (suc k)) (q ⊗ M) (λ k. ≼-trans (l (suc k)) (≽-of (mul-assoc q M (M ↑ k)))), l 0, one-step, dot-le n (F E) M F≼, cancel) (more n q (a₀ E) M (M ↑ n))
 
-  a-le : (n : ℕ) → a u h X Y a₀ n ≼ a₀ ⊗ M ↑ n
+  a-le : (n : ℕ) → a E n ≼ a₀ E ⊗ M ↑ n
   unfolding upto a _↑_
   a-le zero = unfold _⊗_ whole in record { le = omega arith }
-  a-le (suc n) = grw (mono, dot-le n (F u h X Y) M F≼) (cancel n M a₀ (M ↑ n))
+  a-le (suc n) = grw (mono, dot-le n (F E) M F≼) (cancel n M (a₀ E) (M ↑ n))
 
 -- ---- the majorant's terms, d(0) = c, d(n) = d(n−1) × M/(n+1), with no rounding
 
@@ -157,25 +159,25 @@ whole-cancel x k = record { le = omega arith }
 halving : (x t : Frac) (k K : ℕ) → whole 2 ⊗ t ≼ whole K → K ≤ suc k → whole 2 ⊗ (x ⊗ t ÷ suc k) ≼ x
 halving x t k K l b = ≼-trans (halving-form x t k) (grw (mono, l, whole-mono b) (whole-cancel x k))
 
-module _ (u h X Y a₀ M : Frac) (h≼u : h ≼ u) (m≼M : m u h X Y ≼ M) where
-  F≼M : (k : ℕ) → F u h X Y k ≼ M ⊗ M ↑ k
+module _ (E : Encounter) (M : Frac) (h≼u : h E ≼ u E) (m≼M : m (u E) (h E) (X E) (Y E) ≼ M) where
+  F≼M : (k : ℕ) → F E k ≼ M ⊗ M ↑ k
   unfolding _↑_
-  F≼M k = ≼-trans (F-le u h X Y h≼u k) (pow-mono (suc k) m≼M)
+  F≼M k = ≼-trans (F-le E h≼u k) (pow-mono (suc k) m≼M)
 
   -- c(n) is at most d(n)
-  pub c-le-d : (n : ℕ) → c u h X Y a₀ n ≼ exact-d a₀ M n
+  pub c-le-d : (n : ℕ) → c E n ≼ exact-d (a₀ E) M n
   unfolding c
-  c-le-d n = ≼-trans (div-mono (factorial (suc n)) (a-le u h X Y a₀ M F≼M n)) (power-d a₀ M n)
+  c-le-d n = ≼-trans (div-mono (factorial (suc n)) (a-le E M F≼M n)) (power-d (a₀ E) M n)
 
   -- where 2M is at most N + 2, the terms from N on come to at most 2d(N), wherever they are cut
-  pub series-tail : (N : ℕ) → whole 2 ⊗ M ≼ whole (suc (suc N)) → (N′ : ℕ) → N ≤ N′ → sum (c u h X Y a₀) N′ ≼ sum (c u h X Y a₀) N ⊕ whole 2 ⊗ exact-d a₀ M N
+  pub series-tail : (N : ℕ) → whole 2 ⊗ M ≼ whole (suc (suc N)) → (N′ : ℕ) → N ≤ N′ → sum (c E) N′ ≼ sum (c E) N ⊕ whole 2 ⊗ exact-d (a₀ E) M N
   unfolding exact-d
-  series-tail N l = tail (c u h X Y a₀) (exact-d a₀ M) N c-le-d (λ k b. halving (exact-d a₀ M k) M (suc k) (suc (suc N)) l (omega arith))
+  series-tail N l = tail (c E) (exact-d (a₀ E) M) N c-le-d (λ k b. halving (exact-d (a₀ E) M k) M (suc k) (suc (suc N)) l (omega arith))
 
 -- where t is at most 64, the exponential's terms from 256 on come to at most 2t^256/256!, wherever they are cut
-pub exponential-tail : (t : Frac) → t ≼ whole 64 → (K : ℕ) → 256 ≤ K → sum (exponential-term t) K ≼ sum (exponential-term t) 256 ⊕ whole 2 ⊗ exponential-term t 256
+pub exponential-tail : (t : Frac) → t ≼ whole largest-t → (K : ℕ) → exponential-cut ≤ K → sum (exponential-term t) K ≼ sum (exponential-term t) exponential-cut ⊕ whole 2 ⊗ exponential-term t exponential-cut
 exponential-tail t l =
-    tail (exponential-term t) (exponential-term t) 256 (λ k. ≼-refl _) (λ k b. grw (mono, ≼-of (power-step t k)) (halving (exponential-term t k) t k 128 doubled (omega arith)))
+    tail (exponential-term t) (exponential-term t) exponential-cut (λ k. ≼-refl _) (λ k b. grw (mono, ≼-of (power-step t k)) (halving (exponential-term t k) t k 128 doubled (omega arith)))
   where
     doubled : whole 2 ⊗ t ≼ whole 128
     doubled = unfold _⊗_ whole in record { le = omega (arith, l .le) }

@@ -3,14 +3,16 @@ use mathlib.Core.Path.{_≡_, refl, ap}
 use mathlib.Core.Bool.{Bool, true, false}
 use Prim.Native.Nat.{ℕ, zero, suc, pred, _+_}
 use lib.IntN.{ℤ, pos, negsuc, negℤ}
+use Rattle.exact.specs.Numbers.{exponential-cut}
 use Rattle.exact.specs.declared.Scaled.{Scaled}
-use Rattle.exact.specs.Scaled.{one, value}
-use Rattle.exact.specs.Fraction.{whole, _⊕_, _⊗_, _⊘_, at-most}
-use Rattle.exact.specs.Rounding.{D, U, round}
-use Rattle.exact.specs.Encounter.{Encounter, square, u, b, zx, zy, g, a₀}
-use Rattle.exact.specs.Steps.{Letters, Powers, letters, start, terms, powers, bound, tail-term}
-use Rattle.exact.specs.Bracket.{side-letters, side-start, side-terms, side-powers, sum-to, M, d, tail-bound, upper-exponential, lower-exponential, lower-end, upper-end, alert, readable}
-use Rattle.exact.specs.Accepted.{miss-outside, tests-3-to-6, begin-refusal}
+use Rattle.exact.specs.Scaled.{one, value, D, U}
+use Rattle.exact.specs.Fraction.{whole, _⊕_, _⊗_, _⊘_, above}
+use Rattle.exact.specs.Private.Round.{round}
+use Rattle.exact.specs.declared.Encounter.{Encounter}
+use Rattle.exact.specs.Series.{square, u, b, zx, zy, g, a₀}
+use Rattle.exact.specs.Steps.{LettersOf, PowersOf, letters, start, terms, powers, bound, tail-term, side-letters, side-start, side-terms, side-powers, sum-to, M, d, tail-bound, exponential-with-tail, exponential-sum, r256, lower-end, upper-end}
+use Rattle.exact.specs.Refusals.{miss-outside, refuses-3, refuses-4, refuses-5, refuses-6, refuses-7, begin-refusal, refuses-23}
+use Rattle.exact.specs.Private.Ranges.{tests-3-to-6}
 
 abbrev pub mirrored : Encounter → Encounter
 mirrored E = record { R = E .R; sx = E .sx; sy = E .sy; xm = negℤ (E .xm); ym = E .ym }
@@ -30,33 +32,29 @@ letters-mirror up E = rw (square-neg (E .xm))
 
 sum-mirror : (up : Bool) (E : Encounter) (N : ℕ) → sum-to up (mirrored E) N ≡ sum-to up E N
 unfolding sum-to side-terms side-start start a₀
-sum-mirror up E N = ap (λ (l : Letters Scaled). terms value (round up 32) l (side-start up E) (pred N) .sum) (letters-mirror up E)
+sum-mirror up E N = ap (λ (l : LettersOf Scaled). terms value (round up 32) l (side-start up E) (pred N) .sum) (letters-mirror up E)
 
 powers-mirror : (up : Bool) (E : Encounter) (k : ℕ) → side-powers up (mirrored E) k ≡ side-powers up E k
 unfolding side-powers
-powers-mirror up E k = ap (λ (l : Letters Scaled). powers value (round up 32) one (l .t) k) (letters-mirror up E)
+powers-mirror up E k = ap (λ (l : LettersOf Scaled). powers value (round up 32) one (l .t) k) (letters-mirror up E)
 
 d-mirror : (E : Encounter) (N : ℕ) → d (mirrored E) N ≡ d E N
 unfolding d M side-start start a₀
-d-mirror E N = ap (λ (l : Letters Scaled). tail-term value (round true 32) (side-start true E) (bound value (round true 32) l) N) (letters-mirror true E)
+d-mirror E N = ap (λ (l : LettersOf Scaled). tail-term value (round true 32) (side-start true E) (bound value (round true 32) l) N) (letters-mirror true E)
 
 pub lower-mirror : (E : Encounter) (N : ℕ) → lower-end (mirrored E) N ≡ lower-end E N
-unfolding lower-end upper-exponential
+unfolding lower-end exponential-with-tail exponential-sum r256
 lower-mirror E N =
-    ap₃ (λ (s : Scaled) (w r : Powers Scaled). D (value s ⊘ value (U (value (w .sum) ⊕ whole 2 ⊗ value (r .r))))) (sum-mirror false E N) (powers-mirror true E 255) (powers-mirror true E 256)
+    ap₃ (λ (s : Scaled) (w r : PowersOf Scaled). D (value s ⊘ value (U (value (w .sum) ⊕ whole 2 ⊗ value (r .r))))) (sum-mirror false E N) (powers-mirror true E (pred exponential-cut)) (powers-mirror true E exponential-cut)
 
 pub upper-mirror : (E : Encounter) (N : ℕ) → upper-end (mirrored E) N ≡ upper-end E N
-unfolding upper-end lower-exponential tail-bound
+unfolding upper-end exponential-sum tail-bound
 upper-mirror E N =
-    ap₃ (λ (s x : Scaled) (w : Powers Scaled). U (value (U (value s ⊕ whole 2 ⊗ value x)) ⊘ value (w .sum))) (sum-mirror true E N) (d-mirror E N) (powers-mirror false E 255)
+    ap₃ (λ (s x : Scaled) (w : PowersOf Scaled). U (value (U (value s ⊕ whole 2 ⊗ value x)) ⊘ value (w .sum))) (sum-mirror true E N) (d-mirror E N) (powers-mirror false E (pred exponential-cut))
 
-pub alert-mirror : (E : Encounter) (N : ℕ) → alert (mirrored E) N ≡ alert E N
-unfolding alert
-alert-mirror E N = ap (λ (x : Scaled). at-most (whole 1) (value x ⊗ whole 10000)) (lower-mirror E N)
-
-pub readable-mirror : (E : Encounter) (N : ℕ) → readable (mirrored E) N ≡ readable E N
-unfolding readable M
-readable-mirror E N = ap (λ (l : Letters Scaled). at-most (whole 2 ⊗ value (bound value (round true 32) l)) (whole (N + 2))) (letters-mirror true E)
+pub read-mirror : (E : Encounter) (N : ℕ) → refuses-23 (mirrored E) N ≡ refuses-23 E N
+unfolding refuses-23 M
+read-mirror E N = ap (λ (l : LettersOf Scaled). above (whole 2 ⊗ value (bound value (round true 32) l)) (whole (N + 2))) (letters-mirror true E)
 
 miss-mirror : (z : ℤ) → miss-outside (negℤ z) ≡ miss-outside z
 unfolding miss-outside
@@ -65,5 +63,5 @@ miss-mirror (pos (suc n)) = refl
 miss-mirror (negsuc n) = refl
 
 pub refusal-mirror : (E : Encounter) → begin-refusal (mirrored E) ≡ begin-refusal E
-unfolding begin-refusal tests-3-to-6
+unfolding begin-refusal refuses-3 refuses-4 refuses-5 refuses-6 refuses-7
 refusal-mirror E = rw (miss-mirror (E .xm), letters-mirror true E)

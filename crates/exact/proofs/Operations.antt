@@ -15,7 +15,7 @@ use Rattle.exact.specs.declared.Scaled.{Scaled}
 use Rattle.exact.specs.Integer.{posPart, negPart}
 use Rattle.exact.specs.Fraction.{Frac, _≈_, _⊕_, _⊗_, _÷_, _⊘_, _over_, whole}
 use Rattle.exact.specs.Scaled.{scaled, nought, value, Normal, IsScaled}
-use Rattle.exact.specs.Rounding.{round}
+use Rattle.exact.specs.Private.Round.{round}
 use Rattle.exact.proofs.Integers.{bal-add, bal-diff}
 use Rattle.exact.proofs.Fractions.{add-comm}
 use Rattle.exact.proofs.Bits.{size-low}

@@ -1,6 +1,6 @@
 -- The order of scaled numbers by exponent and mantissa, and that halving and doubling are exact.
-use mathlib.Core.Path.{_≡_, sym, _∙_, ap}
-use mathlib.Core.Bool.{Bool, true, false}
+use mathlib.Core.Path.{_≡_, refl, sym, _∙_, ap}
+use mathlib.Core.Bool.{Bool, true, false, not}
 use mathlib.Core.Logic.{⊎-elim}
 use Prim.Native.Nat.{ℕ, _+_, _*_, _^_, _≤_, _<_}
 use native.Mathlib.Nat.{mul-le-mul-left, mul-le-mul-right, mul-lt-mul-of-pos-right, mul-one, mul-pos, le-of-lt}
@@ -12,10 +12,10 @@ use lib.IntN.{ℤ, pos, _+ℤ_, _-ℤ_}
 use lib.Pow.{pow-pos, pow-add, pow-mono}
 use Rattle.exact.specs.declared.Scaled.{Scaled}
 use Rattle.exact.specs.Integer.{posPart, negPart}
-use Rattle.exact.specs.Fraction.{Frac, _≼_, _≈_, _⊕_, _⊗_, _÷_, whole, at-most}
+use Rattle.exact.specs.Fraction.{Frac, _≼_, _≈_, _⊕_, _⊗_, _÷_, whole, at-most, above}
 use Rattle.exact.specs.Scaled.{scaled, nought, value, Normal, IsScaled, with-exponent, half, double}
 use Rattle.exact.proofs.Integers.{bal-add, bal-diff}
-use Rattle.exact.specs.Rounding.{round}
+use Rattle.exact.specs.Private.Round.{round}
 use Rattle.exact.proofs.Fractions.{_≺_, lt-or-le, ≈-refl, ≈-sym, add-cong, ≼-trans, ≼-≺, ≺-≼, ≼-of, ≽-of, ≺-or-≼}
 use Rattle.exact.proofs.Rounding.{round-is, round-cong}
 
@@ -28,6 +28,14 @@ at-most-yes p q h = le-leb _ _ (h .le)
 pub at-most-holds : (p q : Frac) → at-most p q ≡ true → p ≼ q
 unfolding at-most
 at-most-holds p q h = record { le = leb→le _ _ (rw h tt) }
+
+pub not-above : (p q : Frac) → above p q ≡ false → p ≼ q
+unfolding above
+not-above p q h = at-most-holds p q (go (at-most p q) h)
+  where
+    go : (b : Bool) → not b ≡ false → b ≡ true
+    go true h = refl
+    go false h = sym h
 
 pub at-most-no : (p q : Frac) → q ≺ p → at-most p q ≡ false
 unfolding at-most

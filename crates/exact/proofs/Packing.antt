@@ -15,8 +15,8 @@ use lib.Ieee.Digits.{size-lt, size-reaches}
 use Rattle.exact.specs.declared.Scaled.{Scaled}
 use Rattle.exact.specs.Integer.{posPart, negPart}
 use Rattle.exact.specs.Fraction.{Frac, _≼_, _≈_}
-use Rattle.exact.specs.Scaled.{scaled, value, Normal, IsScaled}
-use Rattle.exact.specs.Rounding.{IsRound, finish, spare, inexact, pack}
+use Rattle.exact.specs.Scaled.{scaled, value, Normal, IsScaled, IsRound}
+use Rattle.exact.specs.Private.Round.{finish, spare, inexact, pack}
 use Rattle.exact.proofs.Integers.{sub-add}
 use Rattle.exact.proofs.Fractions.{_≺_, ≼-trans, ≼-≺, ≺-≼, ≼-of-≺, ≺-irrefl, ≺-or-≼, ≼-of, ≽-of, ≈-refl, ≈-trans}
 use Rattle.exact.proofs.Bits.{size-ge}

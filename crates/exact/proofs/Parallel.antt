@@ -3,8 +3,9 @@
 use Prim.Native.Nat.{ℕ, zero, suc, _+_, _*_, _≤_}
 use native.Mathlib.Omega.{arith}
 use Rattle.exact.specs.Fraction.{Frac, _⊕_, _⊗_, _÷_}
-use Rattle.exact.specs.Encounter.{Encounter, u, b, zx, zy, g, a₀}
-use Rattle.exact.specs.Steps.{Letters, Terms, Powers, add, mul, div, letters, start, first, next-c, next-p, next-v, next-y, next, terms, bound, next-d, tail-term, next-power, powers}
+use Rattle.exact.specs.declared.Encounter.{Encounter}
+use Rattle.exact.specs.Series.{u, b, zx, zy, g, a₀}
+use Rattle.exact.specs.Steps.{LettersOf, TermsOf, PowersOf, add, mul, div, letters, start, first, next-c, next-p, next-v, next-y, next, terms, bound, next-d, tail-term, next-power, powers}
 
 -- what such a relation has to keep
 pub record Within {S S′ : Type 0} (val : S → Frac) (rnd : Frac → S) (val′ : S′ → Frac) (rnd′ : Frac → S′) (R : ℕ → Frac → Frac → Type 0) : Type 0 where
@@ -30,7 +31,7 @@ module _ {S S′ : Type 0} (val : S → Frac) (rnd : Frac → S) (val′ : S′ 
 
   -- ---- the letters
 
-  pub record Close-letters (l : Letters S) (l′ : Letters S′) : Type 0 where
+  pub record Close-letters (l : LettersOf S) (l′ : LettersOf S′) : Type 0 where
     pub u : R 1 (val (l .u)) (val′ (l′ .u))
     pub h : R 3 (val (l .h)) (val′ (l′ .h))
     pub X : R 3 (val (l .X)) (val′ (l′ .X))
@@ -55,15 +56,15 @@ module _ {S S′ : Type 0} (val : S → Frac) (rnd : Frac → S) (val′ : S′ 
 
   -- ---- the terms of index n
 
-  pub record Close-terms (n : ℕ) (s : Terms S) (s′ : Terms S′) : Type 0 where
+  pub record Close-terms (n : ℕ) (s : TermsOf S) (s′ : TermsOf S′) : Type 0 where
     pub c : R (9 * n + 1) (val (s .c)) (val′ (s′ .c))
     pub p : R (9 * n + 3) (val (s .p)) (val′ (s′ .p))
     pub v : R (9 * n + 1) (val (s .v)) (val′ (s′ .v))
     pub y : R (9 * n + 2) (val (s .y)) (val′ (s′ .y))
     pub sum : R (9 * n + 1) (val (s .sum)) (val′ (s′ .sum))
 
-  module _ (l : Letters S) (l′ : Letters S′) (k : Close-letters l l′) where
-    c-close : (n : ℕ) {s : Terms S} {s′ : Terms S′} → Close-terms n s s′ → R (9 * suc n) (val (next-c val rnd l n s)) (val′ (next-c val′ rnd′ l′ n s′))
+  module _ (l : LettersOf S) (l′ : LettersOf S′) (k : Close-letters l l′) where
+    c-close : (n : ℕ) {s : TermsOf S} {s′ : TermsOf S′} → Close-terms n s s′ → R (9 * suc n) (val (next-c val rnd l n s)) (val′ (next-c val′ rnd′ l′ n s′))
     unfolding next-c
     c-close n q =
         W .more {i = suc (suc (9 * n + 7))} (omega arith)
@@ -74,7 +75,7 @@ module _ {S S′ : Type 0} (val : S → Frac) (rnd : Frac → S) (val′ : S′ 
         (mul-R (9 * n + 5) (k .X) (q .y) (omega arith)) (omega arith) (omega arith))
         (mul-R (9 * n + 4) (k .Y) (q .c) (omega arith)) (omega arith) (omega arith)))
 
-    next-close : (n : ℕ) {s : Terms S} {s′ : Terms S′} → Close-terms n s s′ → Close-terms (suc n) (next val rnd l n s) (next val′ rnd′ l′ n s′)
+    next-close : (n : ℕ) {s : TermsOf S} {s′ : TermsOf S′} → Close-terms n s s′ → Close-terms (suc n) (next val rnd l n s) (next val′ rnd′ l′ n s′)
     unfolding next next-p next-v next-y
     next-close n {s} {s′} q =
         let c : R (9 * suc n) (val (next-c val rnd l n s)) (val′ (next-c val′ rnd′ l′ n s′)) = c-close n q in
@@ -113,7 +114,7 @@ module _ {S S′ : Type 0} (val : S → Frac) (rnd : Frac → S) (val′ : S′ 
   -- ---- r(k) and its sum
 
   module _ (one t : S) (one′ t′ : S′) (one-R : R 0 (val one) (val′ one′)) (t-R : R 3 (val t) (val′ t′)) where
-    pub record Close-powers (k : ℕ) (w : Powers S) (w′ : Powers S′) : Type 0 where
+    pub record Close-powers (k : ℕ) (w : PowersOf S) (w′ : PowersOf S′) : Type 0 where
       pub r : R (5 * k) (val (w .r)) (val′ (w′ .r))
       pub sum : R (5 * k + 1) (val (w .sum)) (val′ (w′ .sum))
 

@@ -17,8 +17,9 @@ use mir.Val.{SFits}
 use Rattle.exact.specs.declared.Scaled.{Scaled}
 use Rattle.exact.specs.Integer.{posPart, negPart}
 use Rattle.exact.specs.Fraction.{Frac, _⊕_, _⊗_, _÷_, _⊘_, _over_}
-use Rattle.exact.specs.Scaled.{scaled, nought, value, Normal, IsScaled, InRange, with-exponent, half, double}
-use Rattle.exact.specs.Rounding.{finish, spare, inexact, pack, round}
+use Rattle.exact.specs.Scaled.{scaled, nought, value, Normal, IsScaled, with-exponent, half, double}
+use Rattle.exact.specs.Private.Ranges.{InRange}
+use Rattle.exact.specs.Private.Round.{finish, spare, inexact, pack, round}
 use Rattle.exact.proofs.Integers.{pos-add, neg-add, pos-diff, neg-diff, pos-sub, neg-sub, gap, gap-above}
 use Rattle.exact.proofs.Signed.{fits}
 use Rattle.exact.proofs.Rounding.{Packed, round-is}

@@ -13,8 +13,8 @@ use lib.Ieee.Digits.{size-lt}
 use Rattle.exact.specs.declared.Scaled.{Scaled}
 use Rattle.exact.specs.Integer.{posPart, negPart}
 use Rattle.exact.specs.Fraction.{Frac, _≼_, _≈_, _⊗_, _over_}
-use Rattle.exact.specs.Scaled.{nought, value, Normal, IsScaled}
-use Rattle.exact.specs.Rounding.{IsRound, finish, inexact, pack, round, lost, slack}
+use Rattle.exact.specs.Scaled.{nought, value, Normal, IsScaled, IsRound, lost}
+use Rattle.exact.specs.Private.Round.{finish, inexact, pack, round}
 use Rattle.exact.proofs.Integers.{balanced, parts}
 use Rattle.exact.proofs.Fractions.{_≺_, ≼-refl, ≼-trans, ≺-≼, ≼-of-≺, ≺-irrefl, ≼-of, ≽-of, ≈-refl, ≈-sym, ≈-trans, antisym, mul-mono, lt-or-le}
 use Rattle.exact.proofs.Bits.{size-low}
@@ -144,6 +144,10 @@ between {up} {b} {x = x} {s} r = rw (r .is) (go (up && s))
     go : (t : Bool) → (point (r .m) (r .j) (r .k) ≼ value (finish b (r .m) (subℕ (r .j) (r .k)) t)) × (value (finish b (r .m) (subℕ (r .j) (r .k)) t) ≼ point (suc (r .m)) (r .j) (r .k))
     go false = unfold finish in (≽-of (value-point _ _ _), ≼-trans (≼-of (value-point _ _ _)) step)
     go true = let v = next-is b (r .m) (r .j) (r .k) (r .low) (r .high) in (≼-trans step (≽-of (v .same)), ≼-of (v .same))
+
+-- 1 + 2^-p: what a rounding to p + 1 bits may be off by, as a factor
+unfoldable pub slack : ℕ → Frac
+slack p = (2 ^ p + 1) over (2 ^ p)
 
 -- relative error at most 2^-p to p + 1 bits: of q and its rounding each is at most the other × (1 + 2^-p)
 pub record Close (p : ℕ) (x q : Frac) : Type 0 where

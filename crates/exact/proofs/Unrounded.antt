@@ -2,9 +2,9 @@
 use mathlib.Core.Path.{_≡_, refl}
 use Prim.Native.Nat.{ℕ, zero, suc}
 use Rattle.exact.specs.Fraction.{Frac, _≈_, _⊗_, _÷_, _↑_, whole, sum}
-use Rattle.exact.specs.Encounter.{Encounter, u, h, X, Y, t, a₀}
-use Rattle.exact.specs.Series.{factorial, c, exponential-term}
-use Rattle.exact.specs.Steps.{Letters, Terms, Powers, add, mul, div, letters, first, next-c, next-p, next-v, next-y, next, terms, next-power, powers}
+use Rattle.exact.specs.declared.Encounter.{Encounter}
+use Rattle.exact.specs.Series.{u, h, X, Y, t, a₀, factorial, c, exponential-term}
+use Rattle.exact.specs.Steps.{LettersOf, TermsOf, PowersOf, add, mul, div, letters, first, next-c, next-p, next-v, next-y, next, terms, next-power, powers}
 use Rattle.exact.proofs.Fractions.{≈-refl, ≈-sym, ≈-trans, cong, add-cong, mul-cong, div-cong, zero-add, mul-comm, div-mul}
 use Rattle.exact.proofs.ExactTerms.{p, v, y, p-zero, v-zero, y-zero, c-zero, p-suc, v-suc, y-suc, c-suc, factorial-step}
 
@@ -13,53 +13,49 @@ abbrev pub same : Frac → Frac
 same q = q
 
 -- the exact letters of an encounter
-abbrev pub exact-letters : Encounter → Letters Frac
+abbrev pub exact-letters : Encounter → LettersOf Frac
 exact-letters E = record { u = u E; h = h E; X = X E; Y = Y E; t = t E }
 
 pub letters-are : (E : Encounter) → letters same same E ≡ exact-letters E
 unfolding letters mul add h X Y t
 letters-are E = refl
 
-module _ (u h X Y a₀ t : Frac) where
-  l : Letters Frac
-  l = record { u = u; h = h; X = X; Y = Y; t = t }
+module _ (E : Encounter) where
+  record Same (n : ℕ) (s : TermsOf Frac) : Type 0 where
+    c-is : s .c ≈ c E n
+    p-is : s .p ≈ p E n
+    v-is : s .v ≈ v E n
+    y-is : s .y ≈ y E n
+    sum-is : s .sum ≈ sum (c E) (suc n)
 
-  record Same (n : ℕ) (s : Terms Frac) : Type 0 where
-    c-is : s .c ≈ c u h X Y a₀ n
-    p-is : s .p ≈ p u h X Y a₀ n
-    v-is : s .v ≈ v u h X Y a₀ n
-    y-is : s .y ≈ y u h X Y a₀ n
-    sum-is : s .sum ≈ sum (c u h X Y a₀) (suc n)
-
-  next-is : (n : ℕ) (s : Terms Frac) → Same n s → Same (suc n) (next same same l n s)
-  unfolding next next-c next-p next-v next-y add mul div sum l
+  next-is : (n : ℕ) (s : TermsOf Frac) → Same n s → Same (suc n) (next same same (exact-letters E) n s)
+  unfolding next next-c next-p next-v next-y add mul div sum
   next-is n s k =
-      let c-ok : next-c same same l n s ≈ c u h X Y a₀ (suc n) = grw (cong, k .p-is, k .v-is, k .y-is, k .c-is) (≈-sym (c-suc u h X Y a₀ n)) in
-      let v-ok : next-v same same l n (next-c same same l n s) s ≈ v u h X Y a₀ (suc n) =
-      ≈-trans (add-cong c-ok (div-cong (suc (suc n)) (mul-cong (≈-refl h) (k .v-is)))) (≈-sym (v-suc u h X Y a₀ n)) in
+      let c-ok : next-c same same (exact-letters E) n s ≈ c E (suc n) = grw (cong, k .p-is, k .v-is, k .y-is, k .c-is) (≈-sym (c-suc E n)) in
+      let v-ok : next-v same same (exact-letters E) n (next-c same same (exact-letters E) n s) s ≈ v E (suc n) =
+      ≈-trans (add-cong c-ok (div-cong (suc (suc n)) (mul-cong (≈-refl (h E)) (k .v-is)))) (≈-sym (v-suc E n)) in
       record {
         c-is = c-ok;
-        p-is = ≈-trans (mul-cong (≈-refl u) (add-cong c-ok (div-cong (suc (suc n)) (k .p-is)))) (≈-sym (p-suc u h X Y a₀ n));
+        p-is = ≈-trans (mul-cong (≈-refl (u E)) (add-cong c-ok (div-cong (suc (suc n)) (k .p-is)))) (≈-sym (p-suc E n));
         v-is = v-ok;
-        y-is = ≈-trans (add-cong v-ok (div-cong (suc (suc n)) (mul-cong (≈-refl h) (k .y-is)))) (≈-sym (y-suc u h X Y a₀ n));
+        y-is = ≈-trans (add-cong v-ok (div-cong (suc (suc n)) (mul-cong (≈-refl (h E)) (k .y-is)))) (≈-sym (y-suc E n));
         sum-is = add-cong (k .sum-is) c-ok;
       }
 
-  terms-are : (n : ℕ) → Same n (terms same same l a₀ n)
-  unfolding terms first mul sum l
+  terms-are : (n : ℕ) → Same n (terms same same (exact-letters E) (a₀ E) n)
+  unfolding terms first mul sum
   terms-are zero =
-      let e = c-zero u h X Y a₀ in
+      let e = c-zero E in
       record {
         c-is = e;
-        p-is = ≈-trans (mul-cong (≈-refl u) e) (≈-sym (p-zero u h X Y a₀));
-        v-is = ≈-trans e (≈-sym (v-zero u h X Y a₀));
-        y-is = ≈-trans e (≈-sym (y-zero u h X Y a₀));
+        p-is = ≈-trans (mul-cong (≈-refl (u E)) e) (≈-sym (p-zero E));
+        v-is = ≈-trans e (≈-sym (v-zero E));
+        y-is = ≈-trans e (≈-sym (y-zero E));
         sum-is = ≈-trans e (≈-sym (zero-add _));
       }
   terms-are (suc n) = next-is n _ (terms-are n)
 
-  pub sum-is : (n : ℕ) → terms same same (record { u = u; h = h; X = X; Y = Y; t = t }) a₀ n .sum ≈ sum (c u h X Y a₀) (suc n)
-  unfolding l
+  pub sum-is : (n : ℕ) → terms same same (exact-letters E) (a₀ E) n .sum ≈ sum (c E) (suc n)
   sum-is n = terms-are n .sum-is
 
 -- t^(k+1)/(k+1)! is t^k/k! × t/(k+1)
@@ -68,7 +64,7 @@ unfolding exponential-term _↑_
 power-step t k =
     ≈-trans (factorial-step (t ⊗ t ↑ k) k) (div-cong (suc k) (≈-trans (≈-sym (div-mul t (t ↑ k) (factorial k))) (mul-comm t (t ↑ k ÷ factorial k))))
 
-pub record Same-powers (t : Frac) (k : ℕ) (w : Powers Frac) : Type 0 where
+pub record Same-powers (t : Frac) (k : ℕ) (w : PowersOf Frac) : Type 0 where
   pub r-is : w .r ≈ exponential-term t k
   pub sum-is : w .sum ≈ sum (exponential-term t) (suc k)
 

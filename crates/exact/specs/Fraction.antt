@@ -1,8 +1,8 @@
 -- Document 01, 'Scaled numbers': "In definitions and proofs a fraction is a whole numerator, signed where something is subtracted, over a whole denominator above
--- 0; two fractions are compared by multiplying crosswise." Only g of the letters subtracts (Encounter.antt); all else here is of numbers that are 0 or more.
+-- 0; two fractions are compared by multiplying crosswise." Only g of the letters subtracts (Series.antt); all else here is of numbers that are 0 or more.
 -- Definitions only; their laws are in proofs/Fractions.antt.
 use mathlib.Core.Path.{_≡_}
-use mathlib.Core.Bool.{Bool}
+use mathlib.Core.Bool.{Bool, not}
 use Prim.Native.Nat.{ℕ, zero, suc, pred, _+_, _*_, _≤_, _<_}
 use native.Mathlib.Nat.{mul-pos, zero-lt-suc}
 use lib.Dec.{leb}
@@ -30,6 +30,10 @@ pub record _≈_ (p q : Frac) : Type 0 where
 -- whether p is at most q
 unfoldable pub at-most : Frac → Frac → Bool
 at-most p q = leb (p .num * q .den) (q .num * p .den)
+
+-- whether p is above q
+unfoldable pub above : Frac → Frac → Bool
+above p q = not (at-most p q)
 
 -- the whole number n
 unfoldable pub whole : ℕ → Frac

@@ -1,10 +1,9 @@
 pub mod Integer
 pub mod Fraction
+pub mod Numbers
+pub mod Private
 pub mod Scaled
-pub mod Rounding
-pub mod Encounter
 pub mod Series
 pub mod Steps
-pub mod Bracket
-pub mod Accepted
-pub mod Ranges
+pub mod Records
+pub mod Refusals

@@ -1,11 +1,18 @@
--- Document 01, 'The rounded steps', written once, over numbers S that have a value and a rounding. The lower side has D for it, the upper side U; with the
--- fractions themselves for S and no rounding the steps are the exact series (proofs/Unrounded.antt).
-use Prim.Native.Nat.{ℕ, zero, suc, _*_}
-use Rattle.exact.specs.Fraction.{Frac, _⊕_, _⊗_, _÷_}
-use Rattle.exact.specs.Encounter.{Encounter, u, b, zx, zy, g, a₀}
+-- Document 01, 'The rounded steps'. They are written once, over numbers S that have a value and a rounding `rnd`, which is the paper's D on the lower side and U
+-- on the upper; with the fractions themselves for S and no rounding the steps are the exact series (claim `unrounded`). Then, to 32 significant bits: both sides
+-- of an encounter, the tail bound, the two ends at an order N, and the test of the class.
+use mathlib.Core.Bool.{Bool, true, false}
+use Prim.Native.Nat.{ℕ, zero, suc, pred, _*_}
+use Rattle.exact.specs.declared.Encounter.{Encounter}
+use Rattle.exact.specs.declared.Scaled.{Scaled}
+use Rattle.exact.specs.Fraction.{Frac, whole, _⊕_, _⊗_, _÷_, _⊘_, at-most}
+use Rattle.exact.specs.Numbers.{exponential-cut, alert-odds}
+use Rattle.exact.specs.Scaled.{one, value, D, U}
+use Rattle.exact.specs.Private.Round.{round}
+use Rattle.exact.specs.Series.{u, b, zx, zy, g, a₀}
 
 -- the letters that a side keeps: u, and what is formed "on rounded u, b, zx, zy, g, c(0) (each D of its exact fraction)": h, X, Y, t
-pub record Letters (S : Type 0) : Type 0 where
+pub record LettersOf (S : Type 0) : Type 0 where
   pub u : S
   pub h : S
   pub X : S
@@ -13,7 +20,7 @@ pub record Letters (S : Type 0) : Type 0 where
   pub t : S
 
 -- c(n), p(n), v(n), y(n), and the sum of c(0) to c(n)
-pub record Terms (S : Type 0) : Type 0 where
+pub record TermsOf (S : Type 0) : Type 0 where
   pub c : S
   pub p : S
   pub v : S
@@ -21,70 +28,70 @@ pub record Terms (S : Type 0) : Type 0 where
   pub sum : S
 
 -- r(k), and the sum of r(0) to r(k)
-pub record Powers (S : Type 0) : Type 0 where
+pub record PowersOf (S : Type 0) : Type 0 where
   pub r : S
   pub sum : S
 
-module _ {S : Type 0} (val : S → Frac) (D : Frac → S) where
+module _ {S : Type 0} (val : S → Frac) (rnd : Frac → S) where
   unfoldable pub add : S → S → S
-  add x y = D (val x ⊕ val y)
+  add x y = rnd (val x ⊕ val y)
 
   unfoldable pub mul : S → S → S
-  mul x y = D (val x ⊗ val y)
+  mul x y = rnd (val x ⊗ val y)
 
   -- the quotient by a whole number
   unfoldable pub div : S → ℕ → S
-  div x k = D (val x ÷ k)
+  div x k = rnd (val x ÷ k)
 
   -- "h = D(u × g); X = D(zx × b); Y = D(zy × u); t = D(D(zx + zy) + u)."
-  unfoldable pub letters : Encounter → Letters S
+  unfoldable pub letters : Encounter → LettersOf S
   letters E = record {
-    u = D (u E);
-    h = mul (D (u E)) (D (g E));
-    X = mul (D (zx E)) (D (b E));
-    Y = mul (D (zy E)) (D (u E));
-    t = add (add (D (zx E)) (D (zy E))) (D (u E));
+    u = rnd (u E);
+    h = mul (rnd (u E)) (rnd (g E));
+    X = mul (rnd (zx E)) (rnd (b E));
+    Y = mul (rnd (zy E)) (rnd (u E));
+    t = add (add (rnd (zx E)) (rnd (zy E))) (rnd (u E));
   }
 
   -- c(0), rounded
   unfoldable pub start : Encounter → S
-  start E = D (a₀ E)
+  start E = rnd (a₀ E)
 
-  module _ (l : Letters S) where
+  module _ (l : LettersOf S) where
     -- "p(0) = D(u × c(0)); v(0) = y(0) = c(0)."
-    unfoldable pub first : S → Terms S
+    unfoldable pub first : S → TermsOf S
     first c₀ = record { c = c₀; p = mul (l .u) c₀; v = c₀; y = c₀; sum = c₀ }
 
     -- "c(n+1) = D(D(D(D(p(n) + D(h × v(n))/2) + D(X × y(n))) + D(Y × c(n))) / ((n+1)(n+2)))"
-    unfoldable pub next-c : ℕ → Terms S → S
-    next-c n s = div (add (add (D (val (s .p) ⊕ val (mul (l .h) (s .v)) ÷ 2)) (mul (l .X) (s .y))) (mul (l .Y) (s .c))) (suc n * suc (suc n))
+    unfoldable pub next-c : ℕ → TermsOf S → S
+    next-c n s = div (add (add (rnd (val (s .p) ⊕ val (mul (l .h) (s .v)) ÷ 2)) (mul (l .X) (s .y))) (mul (l .Y) (s .c))) (suc n * suc (suc n))
 
     -- "p(n) = D(u × D(c(n) + D(p(n−1)/(n+1))))", at n + 1
-    unfoldable pub next-p : ℕ → S → Terms S → S
+    unfoldable pub next-p : ℕ → S → TermsOf S → S
     next-p n c s = mul (l .u) (add c (div (s .p) (suc (suc n))))
 
     -- "v(n) = D(c(n) + D(D(h × v(n−1))/(n+1)))", at n + 1
-    unfoldable pub next-v : ℕ → S → Terms S → S
+    unfoldable pub next-v : ℕ → S → TermsOf S → S
     next-v n c s = add c (div (mul (l .h) (s .v)) (suc (suc n)))
 
     -- "y(n) = D(v(n) + D(D(h × y(n−1))/(n+1)))", at n + 1
-    unfoldable pub next-y : ℕ → S → Terms S → S
+    unfoldable pub next-y : ℕ → S → TermsOf S → S
     next-y n v s = add v (div (mul (l .h) (s .y)) (suc (suc n)))
 
     -- "The sum adds c(0), c(1), .. in that order, one D for each addition."
-    unfoldable pub next : ℕ → Terms S → Terms S
+    unfoldable pub next : ℕ → TermsOf S → TermsOf S
     next n s =
         let c = next-c n s in
         let v = next-v n c s in
         record { c = c; p = next-p n c s; v = v; y = next-y n v s; sum = add (s .sum) c }
 
-    unfoldable pub terms : S → ℕ → Terms S
+    unfoldable pub terms : S → ℕ → TermsOf S
     terms c₀ zero = first c₀
     terms c₀ (suc n) = next n (terms c₀ n)
 
-    -- M, on the upper side, where D is the paper's U: "M = U(U(U(u + h/2) + X) + Y)"
+    -- M, on the upper side, where rnd is U: "M = U(U(U(u + h/2) + X) + Y)"
     unfoldable pub bound : S
-    bound = add (add (D (val (l .u) ⊕ val (l .h) ÷ 2)) (l .X)) (l .Y)
+    bound = add (add (rnd (val (l .u) ⊕ val (l .h) ÷ 2)) (l .X)) (l .Y)
 
   -- d(n), likewise: "d(n) = U(U(d(n−1) × M)/(n+1))", at n + 1
   unfoldable pub next-d : S → ℕ → S → S
@@ -97,9 +104,64 @@ module _ {S : Type 0} (val : S → Frac) (D : Frac → S) where
 
   -- "The exponential has r(0) = 1, r(k) = D(D(r(k−1) × t)/k), added likewise"
   module _ (one t : S) where
-    unfoldable pub next-power : ℕ → Powers S → Powers S
+    unfoldable pub next-power : ℕ → PowersOf S → PowersOf S
     next-power k w = let r = div (mul (w .r) t) (suc k) in record { r = r; sum = add (w .sum) r }
 
-    unfoldable pub powers : ℕ → Powers S
+    unfoldable pub powers : ℕ → PowersOf S
     powers zero = record { r = one; sum = one }
     powers (suc k) = next-power k (powers k)
+
+-- a side: up is false for the lower, true for the upper
+module _ (up : Bool) (E : Encounter) where
+  unfoldable pub side-letters : LettersOf Scaled
+  side-letters = letters value (round up 32) E
+
+  unfoldable pub side-start : Scaled
+  side-start = start value (round up 32) E
+
+  unfoldable pub side-terms : ℕ → TermsOf Scaled
+  side-terms n = terms value (round up 32) side-letters side-start n
+
+  unfoldable pub side-powers : ℕ → PowersOf Scaled
+  side-powers k = powers value (round up 32) one (side-letters .t) k
+
+  -- the sum of c(0) to c(N−1), for N ≥ 1
+  unfoldable pub sum-to : ℕ → Scaled
+  sum-to N = side-terms (pred N) .sum
+
+  -- the exponential sum: "for k to 255"
+  unfoldable pub exponential-sum : Scaled
+  exponential-sum = side-powers (pred exponential-cut) .sum
+
+module _ (E : Encounter) where
+  -- "upper r(256)"
+  unfoldable pub r256 : Scaled
+  r256 = side-powers true E exponential-cut .r
+
+  -- M: "Upper side only: M = U(U(U(u + h/2) + X) + Y)"
+  unfoldable pub M : Scaled
+  M = bound value U (side-letters true E)
+
+  -- d(n)
+  unfoldable pub d : ℕ → Scaled
+  d n = tail-term value U (side-start true E) M n
+
+  -- "the tail bound at N is 2d(N)"
+  unfoldable pub tail-bound : ℕ → Frac
+  tail-bound N = whole 2 ⊗ value (d N)
+
+  -- "U(upper exponential sum + 2 × upper r(256))"
+  unfoldable pub exponential-with-tail : Scaled
+  exponential-with-tail = U (value (exponential-sum true E) ⊕ whole 2 ⊗ value r256)
+
+  -- "Lower end: D of the lower sum over U(upper exponential sum + 2 × upper r(256))."
+  unfoldable pub lower-end : ℕ → Scaled
+  lower-end N = D (value (sum-to false E N) ⊘ value exponential-with-tail)
+
+  -- "Upper end: U of U(upper sum + tail bound) over the lower exponential sum."
+  unfoldable pub upper-end : ℕ → Scaled
+  upper-end N = U (value (U (value (sum-to true E N) ⊕ tail-bound N)) ⊘ value (exponential-sum false E))
+
+-- "Class: alert where lower end × 10,000 ≥ 1, else clear."
+unfoldable pub alert : (lower : Scaled) → Bool
+alert lower = at-most (whole 1) (value lower ⊗ whole alert-odds)

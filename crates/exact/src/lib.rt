@@ -1,12 +1,29 @@
-// The scaled number of document 01, with the constants and the constructor that belong to it. All else in this crate is definitions (specs/) and theorems
-// (proofs/).
+// The scaled number of document 01, with the constants and the constructor that belong to it, the five inputs of an encounter, and the paper's limits. All else
+// in this crate is definitions (specs/) and theorems (proofs/).
 ghost use mathlib.Core.Path.{_≡_};
 ghost use mathlib.Core.Bool.{false};
 ghost use Prim.Native.Nat.{_^_, _<_};
 ghost use lib.IntN.{pos, _-ℤ_};
 ghost use Rattle.exact.specs.Fraction.{_≈_, whole as wholeNumber};
 ghost use Rattle.exact.specs.Scaled.{value};
-ghost use Rattle.exact.specs.Rounding.{round};
+ghost use Rattle.exact.specs.Private.Round.{round};
+
+// The limits of specs/Numbers.antt.
+pub const LARGEST_LENGTH: u32 = 10000000;
+pub const LARGEST_T: u32 = 64;
+pub const EXPONENTIAL_CUT: u64 = 256;
+pub const LARGEST_ORDER: u32 = 4096;
+pub const LARGEST_SCRIPT: usize = 65536;
+
+// "Inputs are whole centimetres: combined radius R, larger standard deviation sx, smaller sy, mean miss xm and ym."
+#[repr(C)]
+pub struct Encounter {
+    pub R: u32,
+    pub sx: u32,
+    pub sy: u32,
+    pub xm: i32,
+    pub ym: i32,
+}
 
 // m × 2^e: "e is a signed 32-bit number."
 #[repr(C)]

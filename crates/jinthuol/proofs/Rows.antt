@@ -1,7 +1,7 @@
 -- The session and the replies as the laws of a lent session take them.
 use denote.Struct.Laws as laws
-use Rattle.encounter.proofs.LendOne.{Plainly, Pairs, of-struct}
-use Rattle.encounter.proofs.Rows.{session}
+use Rattle.encounter.proofs.calls.LendOne.{Plainly, Pairs, of-struct}
+use Rattle.encounter.proofs.calls.Rows.{session}
 use Rattle.jinthuol.proofs.Reply as R
 use Rattle.jinthuol.proofs.Reply.Laws as R′
 use Rattle.jinthuol.proofs.Replied as S

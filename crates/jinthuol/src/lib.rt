@@ -1,6 +1,5 @@
 // The library for programs in other languages: the calls of crate encounter and the listing of a script, under names of C.
 ghost use mathlib.Core.Path.{_≡_};
-ghost use Rattle.exact.specs.Encounter.{encounter-of};
 ghost use Rattle.encounter.specs.Session.{empty as none};
 ghost use Rattle.encounter.specs.Calls.{begin-call, add-call, read-call, Reached};
 ghost use Rattle.jinthuol.specs.Reply.{class-number, reply, replied};

@@ -5,7 +5,7 @@ ghost use Rattle.listing.specs.Put.{PutLine};
 ghost use mathlib.Core.Path.{_≡_};
 use crate::ROOM;
 use crate::put_line;
-use encounter::records::take_record;
+use encounter::calls::records::take_record;
 use encounter::state::Answer;
 use encounter::state::Class;
 use encounter::state::Session;

@@ -4,8 +4,8 @@ use Prim.Native.Nat.{ℕ}
 use mir.Syntax.{w16}
 use Rattle.encounter.specs.declared.state.Session.{Session}
 use Rattle.encounter.specs.Calls.{add-call, Reached}
-use Rattle.encounter.proofs.LendOne.{of-uint, lent-spec}
-use Rattle.encounter.proofs.Rows.{session}
+use Rattle.encounter.proofs.calls.LendOne.{of-uint, lent-spec}
+use Rattle.encounter.proofs.calls.Rows.{session}
 use Rattle.jinthuol.specs.declared.Reply.{Reply}
 use Rattle.jinthuol.specs.declared.Replied.{Replied}
 use Rattle.jinthuol.specs.Reply.{reply, replied}

@@ -3,12 +3,11 @@ use mathlib.Core.Path.{_≡_, ap}
 use Prim.Native.Nat.{ℕ}
 use lib.IntN.{ℤ}
 use mir.Syntax.{w32}
-use Rattle.exact.specs.Encounter.{encounter-of}
 use Rattle.encounter.specs.declared.state.Session.{Session}
 use Rattle.encounter.specs.Calls.{begin-call, Reached}
-use Rattle.encounter.proofs.LendOne.{of-uint, of-sint}
-use Rattle.encounter.proofs.LendFive.{lent-spec}
-use Rattle.encounter.proofs.Rows.{session}
+use Rattle.encounter.proofs.calls.LendOne.{of-uint, of-sint}
+use Rattle.encounter.proofs.calls.LendFive.{lent-spec}
+use Rattle.encounter.proofs.calls.Rows.{session}
 use Rattle.jinthuol.specs.declared.Reply.{Reply}
 use Rattle.jinthuol.specs.declared.Replied.{Replied}
 use Rattle.jinthuol.specs.Reply.{reply, replied}

@@ -1,7 +1,7 @@
 use native.Mathlib.Omega.{arith}
-use Rattle.encounter.proofs.Invariant.{begun, order-high}
-use Rattle.encounter.proofs.Progressing.{added-is}
-use Rattle.encounter.proofs.Answering.{add-21, add-22, add-taken, add-reached}
+use Rattle.encounter.proofs.calls.Invariant.{begun, order-high}
+use Rattle.encounter.proofs.steps.Progressing.{added-is}
+use Rattle.encounter.proofs.calls.Answering.{add-21, add-22, add-taken, add-reached}
 use borrow.Author.Needs.{needs}
 use Rattle.encounter.proofs.calls.add.Statement.{statement}
 use Rattle.encounter.proofs.calls.add.Tie as tie

@@ -7,19 +7,19 @@ use mir.Facts.{toZ-ofZ}
 use Rattle.exact.specs.declared.Scaled.{Scaled}
 use Rattle.exact.specs.Fraction.{whole, at-most}
 use Rattle.exact.specs.Scaled.{value}
-use Rattle.exact.specs.Rounding.{round}
-use Rattle.exact.specs.Encounter.{Encounter, encounter-of}
-use Rattle.exact.specs.Bracket.{side-letters}
-use Rattle.exact.specs.Accepted.{tests-3-to-6}
+use Rattle.exact.specs.Private.Round.{round}
+use Rattle.exact.specs.declared.Encounter.{Encounter}
+use Rattle.exact.specs.Steps.{side-letters}
+use Rattle.exact.specs.Private.Ranges.{tests-3-to-6}
 use Rattle.exact.proofs.Fractions.{≈-refl}
 use Rattle.exact.proofs.Operations.{whole-exact}
 use Rattle.exact.proofs.Order.{at-most-cong}
 use Rattle.exact.proofs.Ranges.{widen}
 use Rattle.encounter.specs.declared.state.Letters.{Letters}
 use Rattle.encounter.specs.Session.{held-letters}
-use Rattle.encounter.proofs.Fitting.{whole-of}
-use Rattle.encounter.proofs.Opening.{letters-fine}
-use Rattle.encounter.proofs.Answering.{begin-early, begin-7, begin-taken, begin-reached, passed-bounds, accepted}
+use Rattle.encounter.proofs.arithmetic.Fitting.{whole-of}
+use Rattle.encounter.proofs.steps.Opening.{letters-fine}
+use Rattle.encounter.proofs.calls.Answering.{begin-early, begin-7, begin-taken, begin-reached, passed-bounds, accepted}
 use borrow.Author.Needs.{needs}
 use Rattle.encounter.proofs.calls.begin.Statement.{statement}
 use Rattle.encounter.proofs.calls.begin.Tie as tie

@@ -8,8 +8,9 @@ use lib.IntN.{negsuc}
 use lib.Ieee.{size, span, climb}
 use Rattle.exact.specs.declared.Scaled.{Scaled}
 use Rattle.exact.specs.Fraction.{Frac, whole, _over_, _⊗_, at-most}
-use Rattle.exact.specs.Scaled.{scaled, value, IsScaled, InRange}
-use Rattle.exact.specs.Rounding.{round, pack, finish, spare, inexact}
+use Rattle.exact.specs.Scaled.{scaled, value, IsScaled}
+use Rattle.exact.specs.Private.Ranges.{InRange}
+use Rattle.exact.specs.Private.Round.{round, pack, finish, spare, inexact}
 use Rattle.exact.proofs.Order.{at-least-up}
 use Rattle.encounter.proofs.calls.classify.Statement.{statement}
 use Rattle.encounter.proofs.calls.classify.Tie as tie

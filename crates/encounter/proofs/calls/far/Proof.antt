@@ -1,5 +1,5 @@
 use mir.Facts.{toZ-ofZ}
-use Rattle.encounter.proofs.Answering.{far-below, far-above}
+use Rattle.encounter.proofs.calls.Answering.{far-below, far-above}
 use Rattle.encounter.proofs.calls.far.Statement.{statement}
 use Rattle.encounter.proofs.calls.far.Tie as tie
 

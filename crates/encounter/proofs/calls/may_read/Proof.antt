@@ -2,9 +2,9 @@ use native.Mathlib.Omega.{arith}
 use mathlib.Core.Bool.{false}
 use lib.Dec.{lit≤}
 use Rattle.exact.proofs.Ranges.{widen}
-use Rattle.encounter.proofs.Fitting.{double-of, whole-of}
-use Rattle.encounter.proofs.Progressing.{M-fine}
-use Rattle.encounter.proofs.Reading.{may-read-is}
+use Rattle.encounter.proofs.arithmetic.Fitting.{double-of, whole-of}
+use Rattle.encounter.proofs.steps.Progressing.{M-fine}
+use Rattle.encounter.proofs.calls.Reading.{may-read-is}
 use borrow.Author.Needs.{needs}
 use Rattle.encounter.proofs.calls.may_read.Statement.{statement}
 use Rattle.encounter.proofs.calls.may_read.Tie as tie

@@ -3,14 +3,13 @@ use mathlib.Core.Bool.{true, false}
 use lib.Dec.{lit<, lit≤}
 use mir.Facts.{toZ-ofZ}
 use Rattle.exact.specs.declared.Scaled.{Scaled}
-use Rattle.exact.specs.Scaled.{InRange}
-use Rattle.exact.specs.Encounter.{encounter-of}
-use Rattle.exact.specs.Steps.{Powers}
+use Rattle.exact.specs.Private.Ranges.{InRange}
+use Rattle.exact.specs.Steps.{PowersOf}
 use Rattle.exact.proofs.Accepted.{facts}
 use Rattle.exact.proofs.Ranges.{widen}
 use Rattle.exact.proofs.Exponents.{bound-in}
 use Rattle.encounter.specs.Wide.{narrow, side-of}
-use Rattle.encounter.proofs.Opening.{letters-fine, start-fine, t-is, t-fine, powers-fine, powers-next, powers-at, tail-fine, opened-is}
+use Rattle.encounter.proofs.steps.Opening.{letters-fine, start-fine, t-is, t-fine, powers-fine, powers-next, powers-at, tail-fine, opened-is}
 use borrow.Author.Needs.{needs}
 use Rattle.encounter.proofs.calls.opened.Statement.{statement}
 use Rattle.encounter.proofs.calls.opened.Tie as tie
@@ -106,9 +105,9 @@ returns c =
     (z .pre .1)
     (rw (x, y) at (c .before .before .before .before .before .before .before .before .before .before .before .before .before .before .start .ensures))
     (rw (x, y) at (c .before .before .before .before .before .before .before .before .before .before .before .before .before .start2 .ensures))
-    (c .before .before .before .before .side .ensures ∙ ap (λ (w : Powers Scaled). w .sum) (powers-at false E 255 (t false) (w .ensures false)))
-    (c .before .before .side2 .ensures ∙ ap (λ (w : Powers Scaled). w .sum) (powers-at true E 255 (t true) (w .ensures true)))
-    (c .side3 .ensures ∙ ap (λ (w : Powers Scaled). w .r) (powers-at true E 256 (t true) (powers-next true (side-of true (p .result)) 255 (w .ensures true) (c .before .before .before .before .before .before .before .before .before .before .next .ensures true))))
+    (c .before .before .before .before .side .ensures ∙ ap (λ (w : PowersOf Scaled). w .sum) (powers-at false E 255 (t false) (w .ensures false)))
+    (c .before .before .side2 .ensures ∙ ap (λ (w : PowersOf Scaled). w .sum) (powers-at true E 255 (t true) (w .ensures true)))
+    (c .side3 .ensures ∙ ap (λ (w : PowersOf Scaled). w .r) (powers-at true E 256 (t true) (powers-next true (side-of true (p .result)) 255 (w .ensures true) (c .before .before .before .before .before .before .before .before .before .before .next .ensures true))))
     (c .before .before .before .before .before .before .before .before .before .bound .ensures)
     (rw (c .before .before .before .before .before .before .before .before .widen .ensures, c .before .before .before .before .before .before .before .widen2 .ensures) at (c .before .before .before .before .before .narrowed .ensures ∙ c .before .before .before .before .before .before .next-tail .ensures))
     (c .before .before .before .open-side .ensures)

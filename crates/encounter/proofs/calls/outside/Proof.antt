@@ -1,4 +1,4 @@
-use Rattle.encounter.proofs.Answering.{outside-zero, outside-some}
+use Rattle.encounter.proofs.calls.Answering.{outside-zero, outside-some}
 use Rattle.encounter.proofs.calls.outside.Statement.{statement}
 use Rattle.encounter.proofs.calls.outside.Tie as tie
 

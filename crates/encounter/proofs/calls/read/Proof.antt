@@ -1,7 +1,7 @@
 use mathlib.Core.Path.{sym, _∙_}
-use Rattle.encounter.proofs.Invariant.{begun, demand-3}
-use Rattle.encounter.proofs.Reading.{lower-end-fine}
-use Rattle.encounter.proofs.Answering.{read-21, read-23, read-taken, bracket-is}
+use Rattle.encounter.proofs.calls.Invariant.{begun, demand-3}
+use Rattle.encounter.proofs.calls.Reading.{lower-end-fine}
+use Rattle.encounter.proofs.calls.Answering.{read-21, read-23, read-taken, bracket-is}
 use borrow.Author.Needs.{needs}
 use Rattle.encounter.proofs.calls.read.Statement.{statement}
 use Rattle.encounter.proofs.calls.read.Tie as tie

@@ -1,7 +1,6 @@
 use mathlib.Core.Path.{sym, _∙_}
 use mir.Facts.{toZ-ofZ}
-use Rattle.exact.specs.Encounter.{encounter-of}
-use Rattle.encounter.proofs.Answering.{test-3, test-4-sx, test-4-sy, test-5, test-6-xm, test-6-ym, tests-pass}
+use Rattle.encounter.proofs.calls.Answering.{test-3, test-4-sx, test-4-sy, test-5, test-6-xm, test-6-ym, tests-pass}
 use borrow.Author.Needs.{needs}
 use Rattle.encounter.proofs.calls.test_inputs.Statement.{statement}
 use Rattle.encounter.proofs.calls.test_inputs.Tie as tie

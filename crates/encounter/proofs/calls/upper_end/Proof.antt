@@ -1,8 +1,8 @@
 use lib.Dec.{lit≤}
 use mathlib.Core.Bool.{true}
 use Rattle.exact.proofs.Ranges.{widen}
-use Rattle.encounter.proofs.Fitting.{sum-of, double-of}
-use Rattle.encounter.proofs.Reading.{d-fine, lower-exponential-fine, upper-sum-fine, lower-exponential-normal, upper-end-is}
+use Rattle.encounter.proofs.arithmetic.Fitting.{sum-of, double-of}
+use Rattle.encounter.proofs.calls.Reading.{d-fine, lower-exponential-fine, upper-sum-fine, lower-exponential-normal, upper-end-is}
 use Rattle.encounter.proofs.calls.upper_end.Statement.{statement}
 use Rattle.encounter.proofs.calls.upper_end.Tie as tie
 

@@ -6,8 +6,8 @@ use Rattle.encounter.specs.declared.state.Session.{Session}
 use Rattle.encounter.specs.declared.state.Answer.{Answer}
 use Rattle.encounter.specs.declared.state.Called.{Called}
 use Rattle.encounter.specs.Calls.{add-call, Reached}
-use Rattle.encounter.proofs.LendOne.{of-uint, lent-spec}
-use Rattle.encounter.proofs.Rows.{session, answer, called}
+use Rattle.encounter.proofs.calls.LendOne.{of-uint, lent-spec}
+use Rattle.encounter.proofs.calls.Rows.{session, answer, called}
 use Rattle.encounter.proofs.calls.add.Symbol as by-value
 use Rattle.encounter.proofs.calls.add.Met as theorem
 use Rattle.encounter.proofs.state.Session.add.Key as key

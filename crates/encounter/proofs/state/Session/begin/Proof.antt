@@ -2,15 +2,14 @@
 use mathlib.Core.Path.{_≡_, ap}
 use Prim.Native.Nat.{ℕ}
 use lib.IntN.{ℤ}
-use Rattle.exact.specs.Encounter.{encounter-of}
 use mir.Syntax.{w32}
 use Rattle.encounter.specs.declared.state.Session.{Session}
 use Rattle.encounter.specs.declared.state.Answer.{Answer}
 use Rattle.encounter.specs.declared.state.Called.{Called}
 use Rattle.encounter.specs.Calls.{begin-call, Reached}
-use Rattle.encounter.proofs.LendOne.{of-uint, of-sint}
-use Rattle.encounter.proofs.LendFive.{lent-spec}
-use Rattle.encounter.proofs.Rows.{session, answer, called}
+use Rattle.encounter.proofs.calls.LendOne.{of-uint, of-sint}
+use Rattle.encounter.proofs.calls.LendFive.{lent-spec}
+use Rattle.encounter.proofs.calls.Rows.{session, answer, called}
 use Rattle.encounter.proofs.calls.begin.Symbol as by-value
 use Rattle.encounter.proofs.calls.begin.Met as theorem
 use Rattle.encounter.proofs.state.Session.begin.Key as key

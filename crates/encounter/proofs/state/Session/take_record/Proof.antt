@@ -7,11 +7,11 @@ use Rattle.encounter.specs.declared.state.Session.{Session}
 use Rattle.encounter.specs.declared.state.Recorded.{Recorded}
 use Rattle.encounter.specs.declared.state.Taken.{Taken}
 use Rattle.encounter.specs.Calls.{record-call, Reached}
-use Rattle.encounter.proofs.LendOne.{of-uint}
-use Rattle.encounter.proofs.LendSlice.{lent-spec}
-use Rattle.encounter.proofs.Rows.{session, recorded, taken}
-use Rattle.encounter.proofs.records.take_record.Symbol as by-value
-use Rattle.encounter.proofs.records.take_record.Met as theorem
+use Rattle.encounter.proofs.calls.LendOne.{of-uint}
+use Rattle.encounter.proofs.calls.LendSlice.{lent-spec}
+use Rattle.encounter.proofs.calls.Rows.{session, recorded, taken}
+use Rattle.encounter.proofs.calls.records.take_record.Symbol as by-value
+use Rattle.encounter.proofs.calls.records.take_record.Met as theorem
 use Rattle.encounter.proofs.state.Session.take_record.Key as key
 use Rattle.encounter.proofs.state.Session.take_record.Statement as stated
 use Rattle.encounter.proofs.state.Session.take_record.Code as code

@@ -1,0 +1,5 @@
+pub mod Shift
+pub mod LongDivision
+pub mod Fitting
+pub mod WholeParts
+pub mod Reciprocals

@@ -1,0 +1,18 @@
+use mir.Facts.{toZ-ofZ}
+use Rattle.exact.proofs.Signed.{back}
+use borrow.Author.Needs.{needs}
+use Rattle.encounter.proofs.arithmetic.exponent.gap.Statement.{statement}
+use Rattle.encounter.proofs.arithmetic.exponent.gap.Tie as tie
+
+minus-requires : tie.Need-minus-requires
+minus-requires c κs = search needs
+
+positive-requires : tie.Need-positive-requires
+positive-requires c κs = search needs
+
+returns : tie.Need-returns
+returns c =
+    rw (c .positive .ensures, back (c .before .minus .result) (c .before .minus .ok), c .before .minus .ensures, toZ-ofZ (c .before .before .fits .a), toZ-ofZ (c .before .before .fits .b))
+
+pub gap-spec : {M : Type 1} → statement M
+gap-spec = tie.close (tie.spec minus-requires positive-requires returns)

@@ -1,0 +1,75 @@
+use mathlib.Core.Path.{sym, _∙_}
+use native.Mathlib.Omega.{arith}
+use lib.Dec.{lit<}
+use mir.Syntax.{w64}
+use mir.Facts.{toZ-ofZ}
+use Rattle.exact.proofs.Integers.{gap, gap-above}
+use Rattle.exact.proofs.Signed.{diff-fits-in}
+use Rattle.exact.proofs.Operations.{normal, sum-none, sum-comm}
+use Rattle.exact.proofs.Ranges.{in-fits-64}
+use Rattle.encounter.specs.Wide.{narrow}
+use borrow.Author.Needs.{needs}
+use Rattle.encounter.proofs.arithmetic.wide.sum.Statement.{statement}
+use Rattle.encounter.proofs.arithmetic.wide.sum.Tie as tie
+
+returns : tie.Need-returns
+returns c = let z = c .before .before in sym (sum-none (z .args .up) 32 (narrow (z .args .a)) (narrow (z .args .b)) (lit< tt) (z .pre .0 .is-scaled) (c .if1 .taken))
+
+returns-2 : tie.Need-returns-2
+returns-2 c =
+    let z = c .before .before .before .before in
+    let a = narrow (z .args .a) in
+    let b = narrow (z .args .b) in
+    sym (sum-comm (z .args .up) 32 a b (lit< tt) ∙ sum-none (z .args .up) 32 b a (lit< tt) (z .pre .1 .is-scaled) (c .if2 .taken))
+
+gap-requires : tie.Need-gap-requires
+gap-requires c κs =
+    let z = c .before .before .before .before .before .before in
+    rw (toZ-ofZ (in-fits-64 (z .pre .0)), toZ-ofZ (in-fits-64 (z .pre .1))) (diff-fits-in w64 (z .args .b .e) (z .args .a .e) (omega (arith, z .pre .0 .below, z .pre .1 .above)) (omega (arith, z .pre .0 .above, z .pre .1 .below)))
+
+gap-requires-2 : tie.Need-gap-requires-2
+gap-requires-2 c κs =
+    let z = c .before .before .before .before .before .before .before .before in
+    rw (toZ-ofZ (in-fits-64 (z .pre .0)), toZ-ofZ (in-fits-64 (z .pre .1))) (diff-fits-in w64 (z .args .a .e) (z .args .b .e) (omega (arith, z .pre .0 .above, z .pre .1 .below)) (omega (arith, z .pre .0 .below, z .pre .1 .above)))
+
+aligned-requires : tie.Need-aligned-requires
+aligned-requires c κs =
+    let z = c .before .before .before .before .before .before .before .before .before in
+    let a = toZ-ofZ (in-fits-64 (z .pre .0)) in
+    let b = toZ-ofZ (in-fits-64 (z .pre .1)) in (
+      z .pre .0,
+      normal (z .pre .0 .is-scaled) (c .before .before .before .before .before .if2 .left),
+      normal (z .pre .1 .is-scaled) (c .before .before .before .before .before .before .before .if1 .left),
+      rw (c .gap2 .ensures, a, b) (gap (z .args .a .e) (z .args .b .e) (sym (rw (b, a) at (c .before .before .gap .ensures)) ∙ c .before .if3 .taken)),
+    )
+
+aligned-requires-2 : tie.Need-aligned-requires-2
+aligned-requires-2 c κs =
+    let z = c .before .before .before .before .before .before .before .before in
+    let g = rw (toZ-ofZ (in-fits-64 (z .pre .1)), toZ-ofZ (in-fits-64 (z .pre .0))) at (c .before .gap .ensures) in (
+      z .pre .1,
+      normal (z .pre .1 .is-scaled) (c .before .before .before .before .before .before .if1 .left),
+      normal (z .pre .0 .is-scaled) (c .before .before .before .before .if2 .left),
+      rw g (gap-above (z .args .a .e) (z .args .b .e) (λ e. c .if3 .left (g ∙ e))),
+    )
+
+returns-3 : tie.Need-returns-3
+returns-3 c = search needs
+
+returns-4 : tie.Need-returns-4
+returns-4 c =
+    let z = c .before .before .before .before .before .before .before .before .before in
+    c .aligned2 .ensures ∙ sum-comm (z .args .up) 32 (narrow (z .args .b)) (narrow (z .args .a)) (lit< tt)
+
+pub sum-spec : {M : Type 1} → statement M
+sum-spec =
+    tie.close
+    (tie.spec
+    returns
+    returns-2
+    gap-requires
+    gap-requires-2
+    aligned-requires
+    aligned-requires-2
+    returns-3
+    returns-4)

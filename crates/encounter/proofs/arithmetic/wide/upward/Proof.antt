@@ -1,0 +1,16 @@
+use native.Mathlib.Omega.{arith}
+use borrow.Author.Needs.{needs}
+use Rattle.encounter.proofs.arithmetic.wide.upward.Statement.{statement}
+use Rattle.encounter.proofs.arithmetic.wide.upward.Tie as tie
+
+add-result : tie.Need-add-result
+add-result c = search needs
+
+returns : tie.Need-returns
+returns c = rw (c .if1 .taken)
+
+returns-2 : tie.Need-returns-2
+returns-2 c = rw (c .if1 .left) (omega arith)
+
+pub upward-spec : {M : Type 1} → statement M
+upward-spec = tie.close (tie.spec add-result returns returns-2)

@@ -1,0 +1,9 @@
+pub mod Reading
+pub mod Answering
+pub mod Requests
+pub mod Stars
+pub mod Invariant
+pub mod LendOne
+pub mod LendFive
+pub mod LendSlice
+pub mod Rows

@@ -1,0 +1,93 @@
+use mathlib.Core.Path.{_∙_}
+use Rattle.encounter.specs.Calls.{begin, add, read, bad}
+use Rattle.encounter.proofs.calls.Requests.{no-byte, begin-short, begin-whole, add-short, add-whole, a-read, no-kind, answered, stopped, read-taken}
+use borrow.Author.Needs.{needs}
+use Rattle.encounter.proofs.calls.records.take_record.Statement.{statement}
+use Rattle.encounter.proofs.calls.records.take_record.Tie as tie
+
+stop-requires : tie.Need-stop-requires
+stop-requires c κs = search needs
+
+returns : tie.Need-returns
+returns c =
+    let z = c .before .before .before in
+    answered _ (z .args .at) (z .args .s) (bad 1) _ (z .pre) (no-byte _ _ (c .before .if1 .taken)) (c .stop .ensures ∙ stopped 1 (z .args .at) (z .args .s))
+
+shared-slice-read-kind : tie.Need-shared-slice-read-kind
+shared-slice-read-kind c = search needs
+
+sub-left : tie.Need-sub-left
+sub-left c = search needs
+
+stop-requires-2 : tie.Need-stop-requires-2
+stop-requires-2 c κs = search needs
+
+returns-2 : tie.Need-returns-2
+returns-2 c =
+    let z = c .before .before .before .before .before .before in
+    answered _ (z .args .at) (z .args .s) (bad 2) _ (z .pre) (begin-short _ _ (c .before .before .before .before .if1 .left) (c .before .before .if2 .taken) (c .before .if3 .taken)) (c .stop2 .ensures ∙ stopped 2 (z .args .at) (z .args .s))
+
+take-begin-requires : tie.Need-take-begin-requires
+take-begin-requires c κs = search needs
+
+returns-3 : tie.Need-returns-3
+returns-3 c =
+    let z = c .before .before .before .before .before .before in
+    answered _ (z .args .at) (z .args .s) (begin _) _ (z .pre) (begin-whole _ _ (c .before .before .before .before .if1 .left) (c .before .before .if2 .taken) (c .before .if3 .left)) (c .take-begin .ensures .0)
+
+stop-requires-3 : tie.Need-stop-requires-3
+stop-requires-3 c κs = search needs
+
+returns-4 : tie.Need-returns-4
+returns-4 c =
+    let z = c .before .before .before .before .before .before .before in
+    answered _ (z .args .at) (z .args .s) (bad 2) _ (z .pre) (add-short _ _ (c .before .before .before .before .before .if1 .left) (c .before .before .before .if2 .left) (c .before .before .if4 .taken) (c .before .if5 .taken)) (c .stop3 .ensures ∙ stopped 2 (z .args .at) (z .args .s))
+
+take-add-requires : tie.Need-take-add-requires
+take-add-requires c κs = search needs
+
+returns-5 : tie.Need-returns-5
+returns-5 c =
+    let z = c .before .before .before .before .before .before .before in
+    answered _ (z .args .at) (z .args .s) (add _) _ (z .pre) (add-whole _ _ (c .before .before .before .before .before .if1 .left) (c .before .before .before .if2 .left) (c .before .before .if4 .taken) (c .before .if5 .left)) (c .take-add .ensures .0)
+
+read-requires : tie.Need-read-requires
+read-requires c κs = search needs
+
+add-next : tie.Need-add-next
+add-next c = search needs
+
+returns-6 : tie.Need-returns-6
+returns-6 c =
+    let z = c .before .before .before .before .before .before .before in
+    answered _ (z .args .at) (z .args .s) (read) _ (z .pre) (a-read _ _ (c .before .before .before .before .before .if1 .left) (c .before .before .before .if2 .left) (c .before .before .if4 .left) (c .before .if6 .taken)) (read-taken (z .args .at) (z .args .s) (c .read .ensures .0))
+
+stop-requires-4 : tie.Need-stop-requires-4
+stop-requires-4 c κs = search needs
+
+returns-7 : tie.Need-returns-7
+returns-7 c =
+    let z = c .before .before .before .before .before .before .before in
+    answered _ (z .args .at) (z .args .s) (bad 1) _ (z .pre) (no-kind _ _ (c .before .before .before .before .before .if1 .left) (c .before .before .before .if2 .left) (c .before .before .if4 .left) (c .before .if6 .left)) (c .stop4 .ensures ∙ stopped 1 (z .args .at) (z .args .s))
+
+pub take-record-spec : {M : Type 1} → statement M
+take-record-spec =
+    tie.close
+    (tie.spec
+    stop-requires
+    returns
+    shared-slice-read-kind
+    sub-left
+    stop-requires-2
+    returns-2
+    take-begin-requires
+    returns-3
+    stop-requires-3
+    returns-4
+    take-add-requires
+    returns-5
+    read-requires
+    add-next
+    returns-6
+    stop-requires-4
+    returns-7)

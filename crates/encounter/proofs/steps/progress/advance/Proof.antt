@@ -1,0 +1,135 @@
+use mathlib.Core.Path.{_≡_, _∙_, ap}
+use mathlib.Core.Bool.{true, false}
+use Prim.Native.Nat.{_+_, _-_, _≤_, _<_}
+use native.Mathlib.Omega.{arith}
+use lib.Dec.{lit≤}
+use Rattle.exact.specs.declared.Encounter.{Encounter}
+use Rattle.exact.proofs.Ranges.{widen}
+use Rattle.encounter.specs.Session.{progress, encounter}
+use Rattle.encounter.proofs.steps.Progressing.{Holds, start-holds, letters-held, bound-held, terms-held, tail-held, next-holds, holds-progress}
+use borrow.Author.Needs.{needs}
+use Rattle.encounter.proofs.steps.progress.advance.Statement.{statement}
+use Rattle.encounter.proofs.steps.progress.advance.Tie as tie
+
+-- of which encounter the numbers before the loop are, at n₀, of that the loop's are, at n
+abbrev Inv-loop : tie.InvT-loop
+Inv-loop count l M t₀ d₀ limit n₀ t d n = (n ≤ limit) × (limit ≤ 4095) × ((E : Encounter) → Holds E l M t₀ d₀ n₀ → Holds E l M t d n)
+
+abbrev μ-loop : tie.MeasureT-loop
+μ-loop count l M t₀ d₀ limit n₀ t d n = limit - n
+
+letter-pairs-requires : tie.Need-letter-pairs-requires Inv-loop μ-loop
+letter-pairs-requires c κs = search needs
+
+widen-requires : tie.Need-widen-requires Inv-loop μ-loop
+widen-requires c κs = search needs
+
+term-pairs-requires : tie.Need-term-pairs-requires Inv-loop μ-loop
+term-pairs-requires c κs = search needs
+
+widen-requires-2 : tie.Need-widen-requires-2 Inv-loop μ-loop
+widen-requires-2 c κs = search needs
+
+add-limit : tie.Need-add-limit Inv-loop μ-loop
+add-limit c = let z = c .before .before .before .before .before .before .before in record { fits = omega (arith, z .pre .1) }
+
+sub-limit : tie.Need-sub-limit Inv-loop μ-loop
+sub-limit c = let z = c .before .before .before .before .before .before .before in omega (arith, z .pre .0 .low)
+
+cast-limit : tie.Need-cast-limit Inv-loop μ-loop
+cast-limit c = let z = c .before .before .before .before .before .before .before in record { fits = omega (arith, z .pre .1) }
+
+sub-n : tie.Need-sub-n Inv-loop μ-loop
+sub-n c = let z = c .before .before .before .before .before .before .before .before in z .pre .0 .low
+
+cast-n : tie.Need-cast-n Inv-loop μ-loop
+cast-n c = let z = c .before .before .before .before .before .before .before .before in record { fits = omega (arith, z .pre .1) }
+
+loop-holds : tie.Need-loop-holds Inv-loop μ-loop
+loop-holds c = let z = c .before .before .before .before .before .before .before .before in (omega (arith, z .pre .0 .low), omega (arith, z .pre .1), λ E h. h)
+
+next-terms-requires : tie.Need-next-terms-requires Inv-loop μ-loop
+next-terms-requires c κs =
+    let z = c .before .before .before .before .before .before .before .before .before .before in
+    let l = c .before .loop in
+    let h = l .inv .2 (encounter (z .args .s)) (start-holds (z .args .s) (z .pre .0) (c .before .before .before .before .before .before .before .letter-pairs .ensures) (c .before .before .before .before .before .before .widen .ensures) (c .before .before .before .before .before .term-pairs .ensures) (c .before .before .before .before .widen2 .ensures)) in
+    let n : l .n < 4096 = omega (arith, l .inv .1, c .loop-test .taken) in
+    (n, letters-held (z .pre .0) h, terms-held (z .pre .0) h n)
+
+add-next-tail : tie.Need-add-next-tail Inv-loop μ-loop
+add-next-tail c = record { fits = omega (arith, c .before .before .loop .inv .1, c .before .loop-test .taken) }
+
+next-tail-requires : tie.Need-next-tail-requires Inv-loop μ-loop
+next-tail-requires c κs =
+    let z = c .before .before .before .before .before .before .before .before .before .before .before in
+    let l = c .before .before .loop in
+    let h = l .inv .2 (encounter (z .args .s)) (start-holds (z .args .s) (z .pre .0) (c .before .before .before .before .before .before .before .before .letter-pairs .ensures) (c .before .before .before .before .before .before .before .widen .ensures) (c .before .before .before .before .before .before .term-pairs .ensures) (c .before .before .before .before .before .widen2 .ensures)) in
+    let n : l .n < 4096 = omega (arith, l .inv .1, c .before .loop-test .taken) in
+    (omega (arith, n), bound-held (z .pre .0) h, tail-held (z .pre .0) h n)
+
+add-n : tie.Need-add-n Inv-loop μ-loop
+add-n c = record { fits = omega (arith, c .before .before .before .loop .inv .1, c .before .before .loop-test .taken) }
+
+loop-less : tie.Need-loop-less Inv-loop μ-loop
+loop-less c = omega (arith, c .before .before .loop-test .taken)
+
+loop-again : tie.Need-loop-again Inv-loop μ-loop
+loop-again c =
+    let l = c .before .before .before .loop in
+    (omega (arith, c .before .before .loop-test .taken), l .inv .1, λ E h. next-holds E (l .n) (l .inv .2 E h) (c .before .next-terms .ensures) (c .next-tail .ensures))
+
+side-terms-requires : tie.Need-side-terms-requires Inv-loop μ-loop
+side-terms-requires c κs =
+    let z = c .before .before .before .before .before .before .before .before .before .before in
+    let l = c .before .loop in
+    let h = l .inv .2 (encounter (z .args .s)) (start-holds (z .args .s) (z .pre .0) (c .before .before .before .before .before .before .before .letter-pairs .ensures) (c .before .before .before .before .before .before .widen .ensures) (c .before .before .before .before .before .term-pairs .ensures) (c .before .before .before .before .widen2 .ensures)) in
+    terms-held (z .pre .0) h (omega (arith, l .inv .0, l .inv .1)) false
+
+side-terms-requires-2 : tie.Need-side-terms-requires-2 Inv-loop μ-loop
+side-terms-requires-2 c κs =
+    let z = c .before .before .before .before .before .before .before .before .before .before .before in
+    let l = c .before .before .loop in
+    let h = l .inv .2 (encounter (z .args .s)) (start-holds (z .args .s) (z .pre .0) (c .before .before .before .before .before .before .before .before .letter-pairs .ensures) (c .before .before .before .before .before .before .before .widen .ensures) (c .before .before .before .before .before .before .term-pairs .ensures) (c .before .before .before .before .before .widen2 .ensures)) in
+    terms-held (z .pre .0) h (omega (arith, l .inv .0, l .inv .1)) true
+
+narrowed-requires : tie.Need-narrowed-requires Inv-loop μ-loop
+narrowed-requires c κs =
+    let z = c .before .before .before .before .before .before .before .before .before .before .before .before in
+    let l = c .before .before .before .loop in
+    let h = l .inv .2 (encounter (z .args .s)) (start-holds (z .args .s) (z .pre .0) (c .before .before .before .before .before .before .before .before .before .letter-pairs .ensures) (c .before .before .before .before .before .before .before .before .widen .ensures) (c .before .before .before .before .before .before .before .term-pairs .ensures) (c .before .before .before .before .before .before .widen2 .ensures)) in
+    widen (lit≤ tt) (tail-held (z .pre .0) h (omega (arith, l .inv .0, l .inv .1)))
+
+returns : tie.Need-returns Inv-loop μ-loop
+returns c =
+    let z = c .before .before .before .before .before .before .before .before .before .before .before .before .before in
+    let l = c .before .before .before .before .loop in
+    let h = l .inv .2 (encounter (z .args .s)) (start-holds (z .args .s) (z .pre .0) (c .before .before .before .before .before .before .before .before .before .before .letter-pairs .ensures) (c .before .before .before .before .before .before .before .before .before .widen .ensures) (c .before .before .before .before .before .before .before .before .term-pairs .ensures) (c .before .before .before .before .before .before .before .widen2 .ensures)) in
+    let e : l .n ≡ z .args .s .N + z .args .count - 1 = omega (arith, l .inv .0, c .before .before .before .loop-test .left) in
+    holds-progress (encounter (z .args .s)) (l .n) h (c .before .before .side-terms .ensures) (c .before .side-terms2 .ensures) (c .narrowed .ensures) ∙ ap (progress (encounter (z .args .s))) e
+
+pub advance-spec : {M : Type 1} → statement M
+advance-spec =
+    tie.close
+    (tie.spec
+    Inv-loop
+    μ-loop
+    letter-pairs-requires
+    widen-requires
+    term-pairs-requires
+    widen-requires-2
+    add-limit
+    sub-limit
+    cast-limit
+    sub-n
+    cast-n
+    loop-holds
+    next-terms-requires
+    add-next-tail
+    next-tail-requires
+    add-n
+    loop-less
+    loop-again
+    side-terms-requires
+    side-terms-requires-2
+    narrowed-requires
+    returns)

@@ -1,0 +1,16 @@
+use mathlib.Core.Bool.{true, false}
+use Rattle.encounter.proofs.steps.Pairs.{by-side}
+use Rattle.encounter.proofs.steps.sides.overs_by.Statement.{statement}
+use Rattle.encounter.proofs.steps.sides.overs_by.Tie as tie
+
+over-by-requires : tie.Need-over-by-requires
+over-by-requires c κs = (c .pre .0 false, c .pre .1)
+
+over-by-requires-2 : tie.Need-over-by-requires-2
+over-by-requires-2 c κs = let z = c .before in (z .pre .0 true, z .pre .1)
+
+returns : tie.Need-returns
+returns c = by-side _ (c .before .over-by .ensures) (c .over-by2 .ensures)
+
+pub overs-by-spec : {M : Type 1} → statement M
+overs-by-spec = tie.close (tie.spec over-by-requires over-by-requires-2 returns)

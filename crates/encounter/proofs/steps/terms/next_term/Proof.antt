@@ -1,0 +1,125 @@
+use mathlib.Core.Path.{_≡_}
+use Prim.Native.Nat.{ℕ, suc, _+_, _*_, _^_, _≤_, _<_}
+use native.Mathlib.Nat.{mul-le-mul}
+use native.Mathlib.Omega.{arith}
+use lib.Dec.{lit<, lit≤}
+use mathlib.Core.Bool.{Bool}
+use Rattle.exact.specs.declared.Scaled.{Scaled}
+use Rattle.exact.specs.Fraction.{_⊕_, _⊗_}
+use Rattle.exact.specs.Scaled.{value}
+use Rattle.exact.specs.Private.Ranges.{InRange}
+use Rattle.exact.specs.Private.Round.{round}
+use Rattle.exact.specs.Steps.{add, mul, div, next-c}
+use Rattle.exact.proofs.Order.{sum-half}
+use Rattle.exact.proofs.Ranges.{widen}
+use Rattle.exact.proofs.Exponents.{mul-in}
+use Rattle.encounter.specs.Wide.{side-of}
+use Rattle.encounter.proofs.arithmetic.Fitting.{product-of, sum-of, half-of}
+use Rattle.encounter.proofs.steps.terms.next_term.Statement.{statement}
+use Rattle.encounter.proofs.steps.terms.next_term.Tie as tie
+
+divisor : (n : ℕ) → (n + 1) * (n + 2) ≡ suc n * suc (suc n)
+divisor n = omega arith
+
+divisor-low : (n : ℕ) → 0 < (n + 1) * (n + 2)
+divisor-low n = omega arith
+
+divisor-max : (n : ℕ) → n < 4096 → (n + 1) * (n + 2) < 2 ^ 32
+divisor-max n h = omega (arith, mul-le-mul {n₁ = n + 1} {m₁ = n + 2} {n₂ = 4096} {m₂ = 4097} (omega arith) (omega arith))
+
+-- the range of each number on the way
+module _ (up : Bool) where
+  hv-in : {h v hv : Scaled} → hv ≡ mul value (round up 32) h v → InRange 32 387 h → InRange 32 (2 ^ 22) v → InRange 32 (2 ^ 22 + 420) hv
+  hv-in e i k = rw e (widen (lit≤ tt) (mul-in up i k))
+
+  first-in : {p x a : Scaled} → a ≡ round up 32 (value p ⊕ value x) → InRange 32 (2 ^ 22) p → InRange 32 (2 ^ 22 + 421) x → InRange 32 (2 ^ 22 + 423) a
+  first-in e i k = sum-of up e (widen (lit≤ tt) i) k
+
+  -- one sum more, with the product of a letter and a term
+  more-in : {X y x a b : Scaled} (B : ℕ) → 420 + 2 ^ 22 ≤ B → x ≡ round up 32 (value X ⊗ value y) → b ≡ round up 32 (value a ⊕ value x)
+      → InRange 32 387 X → InRange 32 (2 ^ 22) y → InRange 32 B a → InRange 32 (B + 1 + 1) b
+  more-in B l e f i k j = sum-of up f j (widen (omega arith) (product-of up e i k))
+
+halves-requires : tie.Need-halves-requires
+halves-requires c κs = let z = c .before .before .before .before .before in λ up. widen (lit≤ tt) (hv-in up (z .pre .3 up) (z .pre .1 up .h) (z .pre .2 up .v))
+
+sums-requires : tie.Need-sums-requires
+sums-requires c κs =
+    let z = c .before .before .before .before .before .before in
+    λ up. (widen (lit≤ tt) (z .pre .2 up .p), widen (lit≤ tt) (half-of (c .halves .ensures up) (hv-in up (z .pre .3 up) (z .pre .1 up .h) (z .pre .2 up .v))))
+
+products-requires : tie.Need-products-requires
+products-requires c κs = let z = c .before .before .before .before .before .before .before in λ up. (widen (lit≤ tt) (z .pre .1 up .X), widen (lit≤ tt) (z .pre .2 up .y))
+
+sums-requires-2 : tie.Need-sums-requires-2
+sums-requires-2 c κs =
+    let z = c .before .before .before .before .before .before .before .before in
+    λ up.
+    let a = first-in up (c .before .sums .ensures up) (z .pre .2 up .p) (half-of (c .before .before .halves .ensures up) (hv-in up (z .pre .3 up) (z .pre .1 up .h) (z .pre .2 up .v))) in
+    (widen (lit≤ tt) a, widen (lit≤ tt) (product-of up (c .products .ensures up) (z .pre .1 up .X) (z .pre .2 up .y)))
+
+products-requires-2 : tie.Need-products-requires-2
+products-requires-2 c κs = let z = c .before .before .before .before .before .before .before .before .before in λ up. (widen (lit≤ tt) (z .pre .1 up .Y), widen (lit≤ tt) (z .pre .2 up .c))
+
+sums-requires-3 : tie.Need-sums-requires-3
+sums-requires-3 c κs =
+    let z = c .before .before .before .before .before .before .before .before .before .before in
+    λ up.
+    let a = first-in up (c .before .before .before .sums .ensures up) (z .pre .2 up .p) (half-of (c .before .before .before .before .halves .ensures up) (hv-in up (z .pre .3 up) (z .pre .1 up .h) (z .pre .2 up .v))) in
+    let b = more-in up (2 ^ 22 + 423) (lit≤ tt) (c .before .before .products .ensures up) (c .before .sums2 .ensures up) (z .pre .1 up .X) (z .pre .2 up .y) a in
+    (widen (lit≤ tt) b, widen (lit≤ tt) (product-of up (c .products2 .ensures up) (z .pre .1 up .Y) (z .pre .2 up .c)))
+
+add-overs : tie.Need-add-overs
+add-overs c = let z = c .before .before .before .before .before .before .before .before .before .before .before in record { fits = omega (arith, z .pre .0) }
+
+add-overs-2 : tie.Need-add-overs-2
+add-overs-2 c = let z = c .before .before .before .before .before .before .before .before .before .before .before in record { fits = omega (arith, z .pre .0) }
+
+mul-overs : tie.Need-mul-overs
+mul-overs c = let z = c .before .before .before .before .before .before .before .before .before .before .before in record { fits = omega (arith, divisor-max (z .args .n) (z .pre .0)) }
+
+overs-requires : tie.Need-overs-requires
+overs-requires c κs =
+    let z = c .before .before .before .before .before .before .before .before .before .before .before in (
+      (λ up.
+          let a = first-in up (c .before .before .before .before .sums .ensures up) (z .pre .2 up .p) (half-of (c .before .before .before .before .before .halves .ensures up) (hv-in up (z .pre .3 up) (z .pre .1 up .h) (z .pre .2 up .v))) in
+          let b = more-in up (2 ^ 22 + 423) (lit≤ tt) (c .before .before .before .products .ensures up) (c .before .before .sums2 .ensures up) (z .pre .1 up .X) (z .pre .2 up .y) a in
+          let all = more-in up (2 ^ 22 + 425) (lit≤ tt) (c .before .products2 .ensures up) (c .sums3 .ensures up) (z .pre .1 up .Y) (z .pre .2 up .c) b in
+          widen (lit≤ tt) all),
+      divisor-low (z .args .n),
+      divisor-max (z .args .n) (z .pre .0),
+    )
+
+returns : tie.Need-returns
+unfolding next-c add mul div
+returns c =
+    let z = c .before .before .before .before .before .before .before .before .before .before .before .before in
+    λ up.
+    rw (
+      c .overs .ensures up,
+      c .before .sums3 .ensures up,
+      c .before .before .products2 .ensures up,
+      c .before .before .before .sums2 .ensures up,
+      c .before .before .before .before .products .ensures up,
+      c .before .before .before .before .before .sums .ensures up,
+      c .before .before .before .before .before .before .halves .ensures up,
+      ← sum-half up 32 (side-of up (z .args .s .p)) (side-of up (z .args .hv)) (lit< tt),
+      divisor (z .args .n),
+      z .pre .3 up,
+    )
+
+pub next-term-spec : {M : Type 1} → statement M
+next-term-spec =
+    tie.close
+    (tie.spec
+    halves-requires
+    sums-requires
+    products-requires
+    sums-requires-2
+    products-requires-2
+    sums-requires-3
+    add-overs
+    add-overs-2
+    mul-overs
+    overs-requires
+    returns)

@@ -1,0 +1,237 @@
+// The arithmetic on scaled numbers in two machine words: each operation answers D (up is false) or U (up is true) of the exact value.
+ghost use mathlib.Core.Path.{_≡_};
+ghost use mathlib.Core.Bool.{cond};
+ghost use Prim.Native.Nat.{_+_, _*_, _/_, _%_, _^_, _≤_, _<_, min};
+ghost use lib.Dec.{ltb};
+ghost use lib.IntN.{pos, _+ℤ_, _-ℤ_};
+ghost use mir.Syntax.{w64};
+ghost use mir.Val.{SFits};
+ghost use Rattle.exact.specs.Fraction.{_⊕_, _⊗_, _÷_};
+ghost use Rattle.exact.specs.Integer.{posPart, negPart};
+ghost use Rattle.exact.specs.Scaled.{value, half, Normal};
+ghost use Rattle.exact.specs.Private.Ranges.{InRange};
+ghost use Rattle.exact.specs.Private.Round.{round};
+ghost use Rattle.encounter.specs.Wide.{narrow, whole-part, Fitted, IsReciprocal};
+use exact::Scaled;
+
+// m × 2^e.
+pub struct Wide {
+    pub m: u64,
+    pub e: i64,
+}
+
+pub fn widen(a: Scaled) -> Wide
+    ensures { λ r. ⌜ narrow r ≡ a ⌝ }
+{
+    let m = a.m as u64;
+    let e = a.e as i64;
+    Wide { m, e }
+}
+
+pub fn narrowed(a: Wide) -> Scaled
+    requires { ⌜ InRange 32 (2 ^ 30) (narrow a) ⌝ }
+    ensures { λ r. ⌜ r ≡ narrow a ⌝ }
+{
+    let m = a.m as u32;
+    let e = a.e as i32;
+    Scaled { m, e }
+}
+
+fn plus(a: i64, b: i64) -> i64
+    requires { ⌜ SFits w64 (a +ℤ b) ⌝ }
+    ensures { λ r. ⌜ r ≡ a +ℤ b ⌝ }
+{
+    a + b
+}
+
+fn raised(e: i64, t: u64) -> i64
+    requires { ⌜ posPart e + t < 2 ^ 63 ⌝ }
+    ensures { λ r. ⌜ r ≡ e +ℤ pos t ⌝ }
+{
+    e + (t as i64)
+}
+
+fn lowered(e: i64, t: u64) -> i64
+    requires { ⌜ negPart e + t < 2 ^ 63 ⌝ }
+    ensures { λ r. ⌜ r ≡ e -ℤ pos t ⌝ }
+{
+    e - (t as i64)
+}
+
+// d, or 0 where d is negative.
+fn positive(d: i64) -> u64
+    ensures { λ r. ⌜ r ≡ posPart d ⌝ }
+{
+    if d < 0 {
+        return 0;
+    }
+    d as u64
+}
+
+// By how much a is above b, or 0 where it is not.
+fn gap(a: i64, b: i64) -> u64
+    requires { ⌜ SFits w64 (a -ℤ b) ⌝ }
+    ensures { λ r. ⌜ r ≡ posPart (a -ℤ b) ⌝ }
+{
+    positive(a - b)
+}
+
+// n, and k more where up is true.
+fn upward(up: bool, n: u64, k: u64) -> u64
+    requires { ⌜ n + k < 2 ^ 64 ⌝ }
+    ensures { λ r. ⌜ r ≡ n + cond up k 0 ⌝ }
+{
+    if up {
+        return n + k;
+    }
+    n
+}
+
+// a × 2^e, for a of 32 or 33 bits: m is a, or half of it.
+fn fit(up: bool, a: u64, e: i64) -> Wide
+    requires { ⌜ (a + 1 < 2 ^ 33) × (posPart e < 2 ^ 32) ⌝ }
+    ensures { λ r. ⌜ Fitted up a e (narrow r) ⌝ }
+{
+    let c = a / 4294967296;
+    let m = upward(up, a, c) >> c;
+    let f = raised(e, c);
+    Wide { m, e: f }
+}
+
+// a × b.
+pub fn product(up: bool, a: Wide, b: Wide) -> Wide
+    requires { ⌜ (InRange 32 (2 ^ 28) (narrow a)) × (InRange 32 (2 ^ 28) (narrow b)) ⌝ }
+    ensures { λ r. ⌜ narrow r ≡ round up 32 (value (narrow a) ⊗ value (narrow b)) ⌝ }
+{
+    let m = a.m;
+    let n = b.m;
+    let x = a.e;
+    let y = b.e;
+    let h = m * n;
+    if h == 0 {
+        return Wide { m: 0, e: 0 };
+    }
+    let e = raised(plus(x, y), 31);
+    fit(up, upward(up, h, 2147483647) / 2147483648, e)
+}
+
+// The shift for a gap of g: 63 already leaves nothing of a mantissa.
+fn shift(g: u64) -> u64
+    ensures { λ r. ⌜ r ≡ min g 63 ⌝ }
+{
+    if g < 63 {
+        return g;
+    }
+    63
+}
+
+// y / 2^g, or where up is true the whole number at or above it.
+fn shifted(up: bool, y: u64, g: u64) -> u64
+    requires { ⌜ (0 < y) × (y < 2 ^ 32) ⌝ }
+    ensures { λ r. ⌜ r ≡ whole-part up (y / 2 ^ g) (ltb 0 (y % 2 ^ g)) ⌝ }
+{
+    let s = shift(g);
+    if up {
+        return ((y - 1) >> s) + 1;
+    }
+    y >> s
+}
+
+// a + b, where neither is zero and a's exponent is b's and g more.
+fn aligned(up: bool, a: Wide, b: Wide, g: u64) -> Wide
+    requires { ⌜ (InRange 32 (2 ^ 28) (narrow a)) × (Normal 32 (narrow a)) × (Normal 32 (narrow b)) × (a .e ≡ b .e +ℤ pos g) ⌝ }
+    ensures { λ r. ⌜ narrow r ≡ round up 32 (value (narrow a) ⊕ value (narrow b)) ⌝ }
+{
+    let m = a.m;
+    let n = b.m;
+    let e = a.e;
+    fit(up, m + shifted(up, n, g), e)
+}
+
+// a + b.
+pub fn sum(up: bool, a: Wide, b: Wide) -> Wide
+    requires { ⌜ (InRange 32 (2 ^ 28) (narrow a)) × (InRange 32 (2 ^ 28) (narrow b)) ⌝ }
+    ensures { λ r. ⌜ narrow r ≡ round up 32 (value (narrow a) ⊕ value (narrow b)) ⌝ }
+{
+    if b.m == 0 {
+        return a;
+    }
+    if a.m == 0 {
+        return b;
+    }
+    let x = a.e;
+    let y = b.e;
+    let more = gap(y, x);
+    if more == 0 {
+        aligned(up, a, b, gap(x, y))
+    } else {
+        aligned(up, b, a, more)
+    }
+}
+
+// a / k: followed by as many zeros as k has bits, a's mantissa has a quotient of 32 or 33 bits.
+pub fn over(up: bool, a: Wide, k: u64) -> Wide
+    requires { ⌜ (InRange 32 (2 ^ 28) (narrow a)) × (0 < k) × (k < 2 ^ 32) ⌝ }
+    ensures { λ r. ⌜ narrow r ≡ round up 32 (value (narrow a) ÷ k) ⌝ }
+{
+    let m = a.m;
+    let x = a.e;
+    if m == 0 {
+        return a;
+    }
+    let bits = (64 - u64::leading_zeros(k)) as u64;
+    let n = m << bits;
+    let e = lowered(x, bits);
+    fit(up, upward(up, n, k - 1) / k, e)
+}
+
+// What a division by k has in common with every other by k.
+pub struct Reciprocal {
+    pub k: u64,
+    pub bits: u64,
+    pub high: u64,
+    pub low: u64,
+}
+
+pub fn reciprocal_of(k: u64) -> Reciprocal
+    requires { ⌜ (0 < k) × (k ≤ 2 ^ 25) ⌝ }
+    ensures { λ r. ⌜ (r .k ≡ k) × IsReciprocal r ⌝ }
+{
+    let bits = (64 - u64::leading_zeros(k)) as u64;
+    let n = 2147483648 << bits;
+    let high = n / k;
+    let low = (n % k * 4294967296 + (k - 1)) / k;
+    Reciprocal { k, bits, high, low }
+}
+
+// a / k, by the reciprocal of k.
+pub fn over_by(up: bool, a: Wide, by: Reciprocal) -> Wide
+    requires { ⌜ (InRange 32 (2 ^ 28) (narrow a)) × IsReciprocal by ⌝ }
+    ensures { λ r. ⌜ narrow r ≡ round up 32 (value (narrow a) ÷ by .k) ⌝ }
+{
+    let m = a.m;
+    let x = a.e;
+    let bits = by.bits;
+    let high = by.high;
+    let low = by.low;
+    if m == 0 {
+        return a;
+    }
+    let h = m * high + m * low / 4294967296;
+    let e = lowered(x, bits);
+    fit(up, upward(up, h, 2147483647) / 2147483648, e)
+}
+
+// a / 2, exactly.
+pub fn halved(a: Wide) -> Wide
+    requires { ⌜ InRange 32 (2 ^ 28) (narrow a) ⌝ }
+    ensures { λ r. ⌜ narrow r ≡ half (narrow a) ⌝ }
+{
+    let m = a.m;
+    let x = a.e;
+    if m == 0 {
+        return a;
+    }
+    let e = lowered(x, 1);
+    Wide { m, e }
+}

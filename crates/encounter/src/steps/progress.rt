@@ -1,0 +1,45 @@
+// Both sides' terms and the upper d, taken on term by term.
+ghost use mathlib.Core.Path.{_≡_};
+ghost use Prim.Native.Nat.{_+_, _-_, _≤_};
+ghost use Rattle.encounter.specs.Session.{progress, encounter, Begun};
+use crate::steps::sides::letter_pairs;
+use crate::steps::sides::side_terms;
+use crate::steps::sides::term_pairs;
+use crate::state::Session;
+use crate::state::Terms;
+use crate::steps::terms::next_tail;
+use crate::steps::terms::next_terms;
+use crate::arithmetic::wide::narrowed;
+use crate::arithmetic::wide::widen;
+use exact::Scaled;
+
+// What an add changes.
+pub struct Progress {
+    pub lower: Terms,
+    pub upper: Terms,
+    pub d: Scaled,
+}
+
+// `count` terms more.
+pub fn advance(s: Session, count: u32) -> Progress
+    requires { ⌜ (Begun s) × (s .N + count ≤ 4096) ⌝ }
+    ensures { λ r. ⌜ r ≡ progress (encounter s) (s .N + count - 1) ⌝ }
+{
+    let below = s.lower;
+    let above = s.upper;
+    let l = letter_pairs(below.letters, above.letters);
+    let M = widen(s.M);
+    let mut t = term_pairs(below.terms, above.terms);
+    let mut d = widen(s.d);
+    let limit = (s.N + count - 1) as u64;
+    let mut n = (s.N - 1) as u64;
+    while n < limit {
+        t = next_terms(l, t, n);
+        d = next_tail(M, d, n + 1);
+        n += 1;
+    }
+    let lower = side_terms(false, t);
+    let upper = side_terms(true, t);
+    let d = narrowed(d);
+    Progress { lower, upper, d }
+}

@@ -1,0 +1,101 @@
+// The terms of both sides, and the upper tail term d.
+ghost use mathlib.Core.Path.{_≡_};
+ghost use mathlib.Core.Bool.{Bool, true};
+ghost use Prim.Native.Nat.{_+_, _*_, _^_, _≤_, _<_};
+ghost use Rattle.exact.specs.Scaled.{value};
+ghost use Rattle.exact.specs.Private.Ranges.{InRange, Letters-in, Terms-in};
+ghost use Rattle.exact.specs.Private.Round.{round};
+ghost use Rattle.exact.specs.Steps.{add, mul, div, first, next-c, next, next-d};
+ghost use Rattle.encounter.specs.Session.{step-letters, held-terms};
+ghost use Rattle.encounter.specs.Wide.{narrow, side-of, letters-of, terms-of, IsReciprocal};
+use crate::arithmetic::scaled;
+use crate::steps::sides::LetterPairs;
+use crate::steps::sides::Pair;
+use crate::steps::sides::TermPairs;
+use crate::steps::sides::halves;
+use crate::steps::sides::overs;
+use crate::steps::sides::overs_by;
+use crate::steps::sides::products;
+use crate::steps::sides::sums;
+use crate::state::Letters;
+use crate::state::Terms;
+use crate::arithmetic::wide::Reciprocal;
+use crate::arithmetic::wide::Wide;
+use crate::arithmetic::wide::over;
+use crate::arithmetic::wide::product;
+use crate::arithmetic::wide::reciprocal_of;
+use exact::Scaled;
+
+// A side's terms of index 0.
+pub fn first_terms(up: bool, l: Letters, start: Scaled) -> Terms
+    requires { ⌜ (Letters-in (step-letters l)) × (InRange 32 177 start) ⌝ }
+    ensures { λ r. ⌜ r ≡ held-terms (first value (round up 32) (step-letters l) start) ⌝ }
+{
+    let u = l.u;
+    let p = scaled::product(up, u, start);
+    Terms {
+        c: start,
+        p,
+        v: start,
+        y: start,
+        sum: start,
+    }
+}
+
+// c(n + 1), where hv is h × v(n).
+fn next_term(l: LetterPairs, s: TermPairs, hv: Pair, n: u64) -> Pair
+    requires { ⌜ (n < 4096) × ((up : Bool) → Letters-in (letters-of up l)) × ((up : Bool) → Terms-in (2 ^ 22) (terms-of up s)) × ((up : Bool) → side-of up hv ≡ mul value (round up 32) (side-of up (l .h)) (side-of up (s .v))) ⌝ }
+    ensures { λ r. ⌜ ((up : Bool) → side-of up r ≡ next-c value (round up 32) (letters-of up l) n (terms-of up s)) ⌝ }
+{
+    let p = s.p;
+    let X = l.X;
+    let y = s.y;
+    let Y = l.Y;
+    let c = s.c;
+    let a = sums(p, halves(hv));
+    let b = sums(a, products(X, y));
+    let all = sums(b, products(Y, c));
+    overs(all, (n + 1) * (n + 2))
+}
+
+// p(n + 1), where c is c(n + 1), p is p(n) and by's k is n + 2.
+fn next_product(u: Pair, c: Pair, p: Pair, by: Reciprocal) -> Pair
+    requires { ⌜ (IsReciprocal by) × ((up : Bool) → InRange 32 177 (side-of up u)) × ((up : Bool) → InRange 32 (2 ^ 23) (side-of up c)) × ((up : Bool) → InRange 32 (2 ^ 22) (side-of up p)) ⌝ }
+    ensures { λ r. ⌜ ((up : Bool) → side-of up r ≡ mul value (round up 32) (side-of up u) (add value (round up 32) (side-of up c) (div value (round up 32) (side-of up p) (by .k)))) ⌝ }
+{
+    products(u, sums(c, overs_by(p, by)))
+}
+
+// x + hx / k, where by's k is n + 2: v(n + 1) from c(n + 1) and h × v(n), and y(n + 1) from v(n + 1) and h × y(n).
+fn next_weighted(x: Pair, hx: Pair, by: Reciprocal) -> Pair
+    requires { ⌜ (IsReciprocal by) × ((up : Bool) → InRange 32 (2 ^ 23) (side-of up x)) × ((up : Bool) → InRange 32 (2 ^ 23) (side-of up hx)) ⌝ }
+    ensures { λ r. ⌜ ((up : Bool) → side-of up r ≡ add value (round up 32) (side-of up x) (div value (round up 32) (side-of up hx) (by .k))) ⌝ }
+{
+    sums(x, overs_by(hx, by))
+}
+
+// The terms of index n + 1 from those of index n.
+pub fn next_terms(l: LetterPairs, s: TermPairs, n: u64) -> TermPairs
+    requires { ⌜ (n < 4096) × ((up : Bool) → Letters-in (letters-of up l)) × ((up : Bool) → Terms-in (2 ^ 22) (terms-of up s)) ⌝ }
+    ensures { λ r. ⌜ ((up : Bool) → terms-of up r ≡ next value (round up 32) (letters-of up l) n (terms-of up s)) ⌝ }
+{
+    let u = l.u;
+    let h = l.h;
+    let hv = products(h, s.v);
+    let hy = products(h, s.y);
+    let by = reciprocal_of(n + 2);
+    let c = next_term(l, s, hv, n);
+    let p = next_product(u, c, s.p, by);
+    let v = next_weighted(c, hv, by);
+    let y = next_weighted(v, hy, by);
+    let sum = sums(s.sum, c);
+    TermPairs { c, p, v, y, sum }
+}
+
+// d(n + 1) from d(n).
+pub fn next_tail(M: Wide, d: Wide, n: u64) -> Wide
+    requires { ⌜ (n ≤ 4096) × (InRange 32 400 (narrow M)) × (InRange 32 (2 ^ 22) (narrow d)) ⌝ }
+    ensures { λ r. ⌜ narrow r ≡ next-d value (round true 32) (narrow M) n (narrow d) ⌝ }
+{
+    over(true, product(true, d, M), n + 2)
+}

@@ -1,0 +1,26 @@
+-- The limits that document 01 sets, each once. src/lib.rt has the same for code.
+use Prim.Native.Nat.{ℕ}
+
+-- centimetres: tests 3, 4 and 6
+abbrev pub largest-length : ℕ
+largest-length = 10000000
+
+-- test 7
+abbrev pub largest-t : ℕ
+largest-t = 64
+
+-- the terms of the rounded exponential: k to 255
+abbrev pub exponential-cut : ℕ
+exponential-cut = 256
+
+-- test 22
+abbrev pub largest-order : ℕ
+largest-order = 4096
+
+-- bytes: refusal 8
+abbrev pub largest-script : ℕ
+largest-script = 65536
+
+-- the class: 1 over this is the probability at which an encounter is an alert
+abbrev pub alert-odds : ℕ
+alert-odds = 10000

@@ -1,0 +1,97 @@
+-- Document 01, 'Script records': both tables of refusals, in their order, each test once. A test is true where it refuses.
+use mathlib.Core.Path.{_≡_}
+use mathlib.Core.Bool.{Bool, true, not, cond, _||_}
+use mathlib.Core.List.{List}
+use Prim.Native.Nat.{ℕ, _+_}
+use lib.Dec.{ltb, leb, eqb}
+use lib.IntN.{ℤ, natAbs}
+use lib.ListN.{length, getD}
+use Rattle.exact.specs.declared.Encounter.{Encounter}
+use Rattle.exact.specs.Fraction.{whole, _⊗_, above}
+use Rattle.exact.specs.Numbers.{largest-length, largest-t, largest-order, largest-script}
+use Rattle.exact.specs.Scaled.{value}
+use Rattle.exact.specs.Steps.{side-letters, M}
+use Rattle.exact.specs.Records.{is-kind, body, Request, begin, add, read, bad, request-of}
+
+-- ---- "From the input, tested in this order:"
+
+-- 8: script file longer than 65,536 bytes (program only, before all else)
+unfoldable pub refuses-8 : List ℕ → Bool
+refuses-8 script = ltb largest-script (length script)
+
+module _ (script : List ℕ) (position : ℕ) where
+  -- 1: no kind byte, or kind is not 1, 2 or 3
+  unfoldable pub refuses-1 : Bool
+  refuses-1 = leb (length script) position || not (is-kind (getD script position 0))
+
+  -- 2: body shorter than its kind needs
+  unfoldable pub refuses-2 : Bool
+  refuses-2 = ltb (length script) (position + 1 + body (getD script position 0))
+
+  -- what the record at a position of a script asks for
+  unfoldable pub request-at : Request
+  request-at = cond refuses-1 (bad 1) (cond refuses-2 (bad 2) (request-of (getD script position 0) script (position + 1)))
+
+-- 0 or above 10,000,000
+unfoldable pub outside : ℕ → Bool
+outside n = eqb n 0 || ltb largest-length n
+
+-- outside −10,000,000 to 10,000,000
+unfoldable pub miss-outside : ℤ → Bool
+miss-outside z = ltb largest-length (natAbs z)
+
+module _ (E : Encounter) where
+  -- 3: R is 0 or above 10,000,000
+  unfoldable pub refuses-3 : Bool
+  refuses-3 = outside (E .R)
+
+  -- 4: sx or sy is 0 or above 10,000,000
+  unfoldable pub refuses-4 : Bool
+  refuses-4 = outside (E .sx) || outside (E .sy)
+
+  -- 5: sy above sx
+  unfoldable pub refuses-5 : Bool
+  refuses-5 = ltb (E .sx) (E .sy)
+
+  -- 6: a miss outside −10,000,000 to 10,000,000
+  unfoldable pub refuses-6 : Bool
+  refuses-6 = miss-outside (E .xm) || miss-outside (E .ym)
+
+  -- 7: upper t above 64
+  unfoldable pub refuses-7 : Bool
+  refuses-7 = above (value (side-letters true E .t)) (whole largest-t)
+
+  -- the number of the first test that refuses a begin, or 0
+  unfoldable pub begin-refusal : ℕ
+  begin-refusal = cond refuses-3 3 (cond refuses-4 4 (cond refuses-5 5 (cond refuses-6 6 (cond refuses-7 7 0))))
+
+-- no test of a begin refuses the encounter
+pub record Accepted (E : Encounter) : Type 0 where
+  pub passes : begin-refusal E ≡ 0
+
+-- ---- "From the state, after 1 and 2:"
+
+-- the state that these tests look at, told from the calls before: no encounter begun, or an encounter at order N
+pub data History : Type 0 where
+  no-encounter : History
+  encounter-at : Encounter → ℕ → History
+
+-- 21: add or read with no encounter begun
+abbrev pub test-21 : History → (Encounter → ℕ → ℕ) → ℕ
+test-21 no-encounter rest = 21
+test-21 (encounter-at E N) rest = rest E N
+
+-- 22: add: N + count above 4,096
+unfoldable pub refuses-22 : (N count : ℕ) → Bool
+refuses-22 N count = ltb largest-order (N + count)
+
+-- 23: read: 2M above N + 2
+unfoldable pub refuses-23 : Encounter → (N : ℕ) → Bool
+refuses-23 E N = above (whole 2 ⊗ value (M E)) (whole (N + 2))
+
+-- the number under which a request is refused, or 0 where no test written for it refuses it
+unfoldable pub refusal : History → Request → ℕ
+refusal w (begin E) = begin-refusal E
+refusal w (add count) = test-21 w (λ E N. cond (refuses-22 N count) 22 0)
+refusal w read = test-21 w (λ E N. cond (refuses-23 E N) 23 0)
+refusal w (bad r) = r
