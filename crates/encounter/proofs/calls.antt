@@ -4,6 +4,5 @@ pub mod Requests
 pub mod Stars
 pub mod Invariant
 pub mod LendOne
-pub mod LendFive
-pub mod LendSlice
 pub mod Rows
+pub mod Claiming

@@ -1,5 +1,6 @@
-pub mod Stars
 pub mod Session
 pub mod Calls
 pub mod Enclosure
-pub mod Wide
+pub mod Stars
+pub mod Claims
+pub mod Private

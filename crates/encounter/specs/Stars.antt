@@ -1,18 +1,19 @@
--- Document 01, 'Encounters on each edge': the cases marked ★, one table. proofs/Stars.antt proves `All stars`, one statement.
+-- Document 01, 'Encounters on each edge': the cases marked ★, one table, and beside them the exact letters of one encounter with unequal sigmas and two misses,
+-- which no ★ encounter has. `All stars` is one statement (claim `star-cases`).
 use mathlib.Core.Path.{_≡_}
 use mathlib.Core.Bool.{true, false}
 use mathlib.Core.List.{List, [], _∷_}
 use Prim.Native.Nat.{ℕ, _+_, _^_}
 use lib.IntN.{pos, negsuc}
+use Rattle.exact.specs.declared.Encounter.{Encounter}
 use Rattle.exact.specs.declared.Scaled.{Scaled}
 use Rattle.exact.specs.Fraction.{Frac, _≈_, _over_, _⊗_, whole}
 use Rattle.exact.specs.Scaled.{scaled, nought, value, D, U}
-use Rattle.exact.specs.declared.Encounter.{Encounter}
-use Rattle.exact.specs.Series.{u, h, X, Y, t, a₀, c}
+use Rattle.exact.specs.Series.{mirrored, u, b, zx, zy, g, h, X, Y, t, F, a₀, c, series, exponential}
 use Rattle.exact.specs.Steps.{side-letters, side-start, side-terms, M, tail-bound}
 use Rattle.encounter.specs.declared.state.Answer.{Answer}
 use Rattle.encounter.specs.Session.{empty, state}
-use Rattle.encounter.specs.Calls.{begin-call, read-call}
+use Rattle.encounter.specs.Calls.{begins, reads, call}
 
 -- a case: what is computed, and what the paper says that it is
 pub data Star : Type 0 where
@@ -31,22 +32,21 @@ abbrev pub All : List Star → Type 0
 All [] = Unit {0}
 All (s ∷ l) = Holds s × All l
 
--- (10, 10, 10, 0, 0), (8, 1, 1, 8, 0), (8, 1, 1, 8, 1), and the second with xm = −8
+-- (10, 10, 10, 0, 0), (8, 1, 1, 8, 0), (8, 1, 1, 8, 1), (8, 1, 1, −8, 0), and (6, 10, 5, 7, −4)
 abbrev pub E₁ : Encounter
-E₁ = encounter-of 10 10 10 (pos 0) (pos 0)
+E₁ = record { R = 10; sx = 10; sy = 10; xm = pos 0; ym = pos 0 }
 
 abbrev pub E₂ : Encounter
-E₂ = encounter-of 8 1 1 (pos 8) (pos 0)
+E₂ = record { R = 8; sx = 1; sy = 1; xm = pos 8; ym = pos 0 }
 
 abbrev pub E₃ : Encounter
-E₃ = encounter-of 8 1 1 (pos 8) (pos 1)
+E₃ = record { R = 8; sx = 1; sy = 1; xm = pos 8; ym = pos 1 }
 
 abbrev pub E₄ : Encounter
-E₄ = encounter-of 8 1 1 (negsuc 7) (pos 0)
+E₄ = record { R = 8; sx = 1; sy = 1; xm = negsuc 7; ym = pos 0 }
 
--- the exact c(n)
-abbrev pub c-of : Encounter → ℕ → Frac
-c-of E n = c (u E) (h E) (X E) (Y E) (a₀ E) n
+abbrev pub E₅ : Encounter
+E₅ = record { R = 6; sx = 10; sy = 5; xm = pos 7; ym = negsuc 3 }
 
 -- 1/2 and 1/8
 abbrev pub a-half : Scaled
@@ -71,10 +71,10 @@ stars =
     ∷ scaled-is (U (whole 0)) nought
     -- ★ (10, 10, 10, 0, 0): u = c(0) = M = 1/2, h = 0, c(1) = 1/8, exact c(2) = 1/48.
     ∷ fraction-is (u E₁) (1 over 2)
-    ∷ fraction-is (c-of E₁ 0) (1 over 2)
+    ∷ fraction-is (c E₁ 0) (1 over 2)
     ∷ fraction-is (h E₁) (whole 0)
-    ∷ fraction-is (c-of E₁ 1) (1 over 8)
-    ∷ fraction-is (c-of E₁ 2) (1 over 48)
+    ∷ fraction-is (c E₁ 1) (1 over 8)
+    ∷ fraction-is (c E₁ 2) (1 over 48)
     ∷ scaled-is (side-letters false E₁ .u) a-half
     ∷ scaled-is (side-letters true E₁ .u) a-half
     ∷ scaled-is (side-start false E₁) a-half
@@ -85,23 +85,40 @@ stars =
     ∷ scaled-is (side-terms true E₁ 1 .c) an-eighth
     ∷ scaled-is (M E₁) a-half
     -- ★ Same, N = 1: tail bound 1/4; a read is accepted, as 1 ≤ 3.
-    ∷ number-is (begin-call E₁ empty .answer .refusal) 0
+    ∷ number-is (call (begins E₁) empty .answer .refusal) 0
     ∷ fraction-is (tail-bound E₁ 1) (1 over 4)
     ∷ fraction-is (whole 2 ⊗ value (M E₁)) (whole 1)
-    ∷ number-is (read-call (state E₁ 1) .answer .refusal) 0
+    ∷ number-is (call reads (state E₁ 1) .answer .refusal) 0
     -- ★ (8, 1, 1, 8, 0): t = 64, accepted; M = 1,056.
     ∷ fraction-is (t E₂) (whole 64)
     ∷ fraction-is (value (side-letters false E₂ .t)) (whole 64)
     ∷ fraction-is (value (side-letters true E₂ .t)) (whole 64)
-    ∷ number-is (begin-call E₂ empty .answer .refusal) 0
+    ∷ number-is (call (begins E₂) empty .answer .refusal) 0
     ∷ fraction-is (value (M E₂)) (whole 1056)
     -- ★ Same: N = 2,109 gives 23, N = 2,110 is read.
-    ∷ number-is (read-call (state E₂ 2109) .answer .refusal) 23
-    ∷ number-is (read-call (state E₂ 2110) .answer .refusal) 0
+    ∷ number-is (call reads (state E₂ 2109) .answer .refusal) 23
+    ∷ number-is (call reads (state E₂ 2110) .answer .refusal) 0
     -- ★ (8, 1, 1, 8, 1): 7.
-    ∷ number-is (begin-call E₃ empty .answer .refusal) 7
+    ∷ number-is (call (begins E₃) empty .answer .refusal) 7
     -- ★ xm = −8 in place of 8: the same answers.
-    ∷ answer-is (begin-call E₄ empty .answer) (begin-call E₂ empty .answer)
-    ∷ answer-is (read-call (state E₄ 2109) .answer) (read-call (state E₂ 2109) .answer)
-    ∷ answer-is (read-call (state E₄ 2110) .answer) (read-call (state E₂ 2110) .answer)
+    ∷ answer-is (call (begins E₄) empty .answer) (call (begins E₂) empty .answer)
+    ∷ answer-is (call reads (state E₄ 2109) .answer) (call reads (state E₂ 2109) .answer)
+    ∷ answer-is (call reads (state E₄ 2110) .answer) (call reads (state E₂ 2110) .answer)
+    -- (6, 10, 5, 7, −4): no ★ case of the paper, but its letters by hand
+    ∷ fraction-is (u E₅) (18 over 25)
+    ∷ fraction-is (b E₅) (9 over 50)
+    ∷ fraction-is (zx E₅) (49 over 200)
+    ∷ fraction-is (zy E₅) (8 over 25)
+    ∷ fraction-is (g E₅) (3 over 4)
+    ∷ fraction-is (h E₅) (27 over 50)
+    ∷ fraction-is (X E₅) (441 over 10000)
+    ∷ fraction-is (Y E₅) (144 over 625)
+    ∷ fraction-is (t E₅) (257 over 200)
+    ∷ fraction-is (F E₅ 0) (2529 over 2000)
+    ∷ fraction-is (F E₅ 1) (177957 over 250000)
+    ∷ fraction-is (c E₅ 0) (9 over 25)
+    ∷ fraction-is (c E₅ 1) (22761 over 100000)
+    ∷ fraction-is (c E₅ 2) (27729459 over 400000000)
+    ∷ fraction-is (series E₅ 3) (262773459 over 400000000)
+    ∷ fraction-is (exponential E₅ 3) (248849 over 80000)
     ∷ []

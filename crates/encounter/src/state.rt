@@ -1,4 +1,5 @@
 // The session: all that is kept of one encounter between calls, and what a call answers.
+use exact::Encounter;
 use exact::Scaled;
 
 // A side's letters.
@@ -32,11 +33,7 @@ pub struct Side {
 // The five inputs, the order N (0 where no encounter was begun), both sides, the upper r(256), M, and the upper d(N).
 #[repr(C)]
 pub struct Session {
-    pub R: u32,
-    pub sx: u32,
-    pub sy: u32,
-    pub xm: i32,
-    pub ym: i32,
+    pub encounter: Encounter,
     pub N: u32,
     pub lower: Side,
     pub upper: Side,
@@ -65,14 +62,9 @@ pub struct Called {
     pub session: Session,
 }
 
-// What a record's call answers, and the position of the next record.
-pub struct Recorded {
+// What a record's call answers, the position of the next record, and the session after it.
+pub struct Taken {
     pub answer: Answer,
     pub next: usize,
-}
-
-// The same, and the session after it.
-pub struct Taken {
-    pub recorded: Recorded,
     pub session: Session,
 }

@@ -19,7 +19,7 @@ use Rattle.exact.proofs.Integers.{balanced, bal-diff}
 use Rattle.exact.proofs.Order.{not-above}
 
 -- a test that did not refuse
-passed : (k : ℕ) (b : Bool) (r : ℕ) → cond b (suc k) r ≡ 0 → (b ≡ false) × (r ≡ 0)
+pub passed : (k : ℕ) (b : Bool) (r : ℕ) → cond b (suc k) r ≡ 0 → (b ≡ false) × (r ≡ 0)
 passed k b r h = go b refl h
   where
     go : (c : Bool) → b ≡ c → cond c (suc k) r ≡ 0 → (b ≡ false) × (r ≡ 0)

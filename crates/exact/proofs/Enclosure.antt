@@ -13,12 +13,12 @@ use Rattle.exact.specs.Private.Round.{round}
 use Rattle.exact.proofs.Rounding.{slack}
 use Rattle.exact.specs.declared.Encounter.{Encounter}
 use Rattle.exact.specs.Series.{u, g, h, X, Y, t, a₀, factorial, exponential-term, series, exponential, quotient}
-use Rattle.exact.specs.Steps.{add, start, powers, next-power, bound, tail-term, next-d, mul, div, side-letters, side-start, side-terms, side-powers, sum-to, M, d, tail-bound, exponential-with-tail, exponential-sum, r256, lower-end, upper-end}
+use Rattle.exact.specs.Steps.{same, add, start, powers, next-power, bound, tail-term, next-d, mul, div, side-letters, side-start, side-terms, side-powers, sum-to, M, d, tail-bound, exponential-with-tail, exponential-sum, r256, lower-end, upper-end}
 use Rattle.exact.specs.Refusals.{refuses-23, Accepted}
 use Rattle.exact.proofs.Fractions.{≼-refl, ≼-trans, ≼-of, ≽-of, add-mono, mul-mono, div-mono, num-pos, quot-mono}
 use Rattle.exact.proofs.Rounding.{round-is, round-close}
 use Rattle.exact.proofs.Order.{not-above}
-use Rattle.exact.proofs.Unrounded.{same, exact-letters, letters-are, sum-is, powers-are}
+use Rattle.exact.proofs.Unrounded.{exact-letters, letters-are, sum-is, powers-are}
 use Rattle.exact.proofs.Majorant.{m, exact-d, series-tail, exponential-tail}
 use Rattle.exact.proofs.Parallel.{Within, Close-letters, letters-close, start-close, terms-close, bound-close, tail-close, powers-close}
 use Rattle.exact.proofs.Accepted.{facts}

@@ -9,13 +9,10 @@ use Rattle.exact.specs.Scaled.{one, value, D, U}
 use Rattle.exact.specs.Fraction.{whole, _⊕_, _⊗_, _⊘_, above}
 use Rattle.exact.specs.Private.Round.{round}
 use Rattle.exact.specs.declared.Encounter.{Encounter}
-use Rattle.exact.specs.Series.{square, u, b, zx, zy, g, a₀}
+use Rattle.exact.specs.Series.{mirrored, square, u, b, zx, zy, g, a₀}
 use Rattle.exact.specs.Steps.{LettersOf, PowersOf, letters, start, terms, powers, bound, tail-term, side-letters, side-start, side-terms, side-powers, sum-to, M, d, tail-bound, exponential-with-tail, exponential-sum, r256, lower-end, upper-end}
 use Rattle.exact.specs.Refusals.{miss-outside, refuses-3, refuses-4, refuses-5, refuses-6, refuses-7, begin-refusal, refuses-23}
 use Rattle.exact.specs.Private.Ranges.{tests-3-to-6}
-
-abbrev pub mirrored : Encounter → Encounter
-mirrored E = record { R = E .R; sx = E .sx; sy = E .sy; xm = negℤ (E .xm); ym = E .ym }
 
 ap₃ : {A B C S : Type 0} (f : A → B → C → S) {a a′ : A} {b b′ : B} {c c′ : C} → a ≡ a′ → b ≡ b′ → c ≡ c′ → f a b c ≡ f a′ b′ c′
 ap₃ f p q r = λ i. f (p i) (q i) (r i)

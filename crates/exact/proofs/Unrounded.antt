@@ -4,13 +4,9 @@ use Prim.Native.Nat.{ℕ, zero, suc}
 use Rattle.exact.specs.Fraction.{Frac, _≈_, _⊗_, _÷_, _↑_, whole, sum}
 use Rattle.exact.specs.declared.Encounter.{Encounter}
 use Rattle.exact.specs.Series.{u, h, X, Y, t, a₀, factorial, c, exponential-term}
-use Rattle.exact.specs.Steps.{LettersOf, TermsOf, PowersOf, add, mul, div, letters, first, next-c, next-p, next-v, next-y, next, terms, next-power, powers}
+use Rattle.exact.specs.Steps.{same, LettersOf, TermsOf, PowersOf, add, mul, div, letters, first, next-c, next-p, next-v, next-y, next, terms, next-power, powers}
 use Rattle.exact.proofs.Fractions.{≈-refl, ≈-sym, ≈-trans, cong, add-cong, mul-cong, div-cong, zero-add, mul-comm, div-mul}
 use Rattle.exact.proofs.ExactTerms.{p, v, y, p-zero, v-zero, y-zero, c-zero, p-suc, v-suc, y-suc, c-suc, factorial-step}
-
--- a fraction is its own value, and no rounding leaves it
-abbrev pub same : Frac → Frac
-same q = q
 
 -- the exact letters of an encounter
 abbrev pub exact-letters : Encounter → LettersOf Frac
@@ -54,6 +50,9 @@ module _ (E : Encounter) where
         sum-is = ≈-trans e (≈-sym (zero-add _));
       }
   terms-are (suc n) = next-is n _ (terms-are n)
+
+  pub term-is : (n : ℕ) → terms same same (exact-letters E) (a₀ E) n .c ≈ c E n
+  term-is n = terms-are n .c-is
 
   pub sum-is : (n : ℕ) → terms same same (exact-letters E) (a₀ E) n .sum ≈ sum (c E) (suc n)
   sum-is n = terms-are n .sum-is

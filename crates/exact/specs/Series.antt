@@ -2,13 +2,17 @@
 -- section III, F(k) is φ_k R^(2k+2) of equation (24), a(n) the recurrence (25), c(n) the terms of (23) and (27); its factor exp(−zx−zy) is in t.
 use mathlib.Core.List.{List, [], _∷_}
 use Prim.Native.Nat.{ℕ, zero, suc, _-_, _*_}
-use lib.IntN.{ℤ, natAbs}
+use lib.IntN.{ℤ, natAbs, negℤ}
 use Rattle.exact.specs.declared.Encounter.{Encounter}
 use Rattle.exact.specs.Fraction.{Frac, whole, _over_, _⊕_, _⊗_, _÷_, _⊘_, _↑_, sum}
 
 -- xm², ym²
 unfoldable pub square : ℤ → ℕ
 square z = natAbs z * natAbs z
+
+-- the encounter with the miss xm on the other side
+abbrev pub mirrored : Encounter → Encounter
+mirrored E = record { R = E .R; sx = E .sx; sy = E .sy; xm = negℤ (E .xm); ym = E .ym }
 
 -- n!
 unfoldable pub factorial : ℕ → ℕ

@@ -32,6 +32,10 @@ pub record PowersOf (S : Type 0) : Type 0 where
   pub r : S
   pub sum : S
 
+-- for the fractions themselves: a fraction is its own value, and nothing is rounded
+abbrev pub same : Frac → Frac
+same q = q
+
 module _ {S : Type 0} (val : S → Frac) (rnd : Frac → S) where
   unfoldable pub add : S → S → S
   add x y = rnd (val x ⊕ val y)

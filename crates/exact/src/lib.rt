@@ -10,9 +10,13 @@ ghost use Rattle.exact.specs.Private.Round.{round};
 
 // The limits of specs/Numbers.antt.
 pub const LARGEST_LENGTH: u32 = 10000000;
+
 pub const LARGEST_T: u32 = 64;
+
 pub const EXPONENTIAL_CUT: u64 = 256;
+
 pub const LARGEST_ORDER: u32 = 4096;
+
 pub const LARGEST_SCRIPT: usize = 65536;
 
 // "Inputs are whole centimetres: combined radius R, larger standard deviation sx, smaller sy, mean miss xm and ym."

@@ -13,7 +13,7 @@ use lib.Ieee.Digits.{size-le}
 use lib.Pow.{pow-mono}
 use Rattle.exact.proofs.Bits.{size-low}
 use Rattle.encounter.specs.declared.arithmetic.wide.Reciprocal.{Reciprocal}
-use Rattle.encounter.specs.Wide.{whole-part, IsReciprocal}
+use Rattle.encounter.specs.Private.Loops.{whole-part, IsReciprocal}
 use Rattle.encounter.proofs.arithmetic.WholeParts.{raised-quotient}
 
 -- R is 2^63 × p / k, rounded up

@@ -15,7 +15,7 @@ use Rattle.exact.proofs.Integers.{balanced, bal-add}
 use Rattle.exact.proofs.Fractions.{lt-or-le}
 use Rattle.exact.proofs.Bits.{size-is}
 use Rattle.exact.proofs.Packing.{pack-is, finish-off, finish-carry, finish-next}
-use Rattle.encounter.specs.Wide.{whole-part}
+use Rattle.encounter.specs.Private.Loops.{whole-part}
 
 pub whole-down : (h : ℕ) (s : Bool) → whole-part false h s ≡ h
 unfolding whole-part

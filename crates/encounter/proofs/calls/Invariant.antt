@@ -1,5 +1,5 @@
--- Along every list of calls the session is empty, or it is the steps' state of the encounter and the order that the calls tell. From that, demand 3.
-use mathlib.Core.Path.{_≡_, refl, sym, subst}
+-- Along every list of calls the session is empty, or it is the steps' state of the encounter and the order that the requests tell. From that, the demands.
+use mathlib.Core.Path.{_≡_, refl, sym, subst, ap, _∙_}
 use mathlib.Core.Bool.{Bool, true, false, cond}
 use mathlib.Core.List.{List, [], _∷_}
 use Prim.Native.Nat.{ℕ, suc, _+_, _≤_}
@@ -7,104 +7,125 @@ use mathlib.Core.Logic.{⊎-elim}
 use native.Mathlib.Nat.{eq-zero-or-pos, add-zero}
 use native.Mathlib.Omega.{arith}
 use borrow.Author.Tests.{ltb-false, le-ltb, eqb-true, ne-eqb}
-use lib.Dec.{ltb, eqb}
+use lib.Dec.{eqb}
 use Rattle.exact.specs.declared.Encounter.{Encounter}
-use Rattle.exact.specs.Refusals.{refuses-23, begin-refusal, Accepted}
+use Rattle.exact.specs.Numbers.{largest-order}
+use Rattle.exact.specs.Records.{Request, begin, add, read, bad}
+use Rattle.exact.specs.Refusals.{begin-refusal, Accepted, History, no-encounter, encounter-at, refuses-22, refuses-23, refusal}
+use Rattle.exact.proofs.Accepted.{passed}
 use Rattle.exact.proofs.Enclosure.{enclosed}
 use Rattle.exact.proofs.Closeness.{ends-close}
 use Rattle.encounter.specs.declared.state.Session.{Session}
 use Rattle.encounter.specs.declared.state.Called.{Called}
-use Rattle.encounter.specs.Session.{empty, state, encounter, Begun, counted, bracket, refusing}
-use Rattle.encounter.specs.Calls.{begin-call, add-call, read-call, Request, begin, add, read, bad, Call, asked, respond, Reached, from-empty, after}
-use Rattle.encounter.specs.Enclosure.{History, none, of, follow, places, About, Claim, Every, Enclosed}
+use Rattle.encounter.specs.Session.{empty, state, counted, bracket}
+use Rattle.encounter.specs.Private.Held.{Begun}
+use Rattle.encounter.specs.Calls.{taken, follow, session-of, history-of, accepted-answer, refusing, outcome, Call, adds, asked, call, Reached, from-empty, after}
+use Rattle.encounter.specs.Enclosure.{Claim, Every, places, Encloses, Demands}
 
--- the session s, where the calls so far are about w
+-- the session s, where the requests so far tell w
 pub data Whole : Session → History → Type 0 where
-  nothing : Whole empty none
-  at : {E : Encounter} {N : ℕ} → Accepted E → 1 ≤ N → N ≤ 4096 → Whole (state E N) (of E N)
+  nothing : Whole empty no-encounter
+  at : {E : Encounter} {N : ℕ} → Accepted E → 1 ≤ N → N ≤ largest-order → Whole (state E N) (encounter-at E N)
 
-by : {A : Type 0} (P : A → Type 0) (b : Bool) {x y : A} → (b ≡ true → P x) → (b ≡ false → P y) → P (cond b x y)
-by P true f g = f refl
-by P false f g = g refl
+pub session-is : {s : Session} {w : History} → Whole s w → s ≡ session-of w
+session-is nothing = refl
+session-is (at h l u) = refl
 
--- the session after a call is whole, for what the calls are then about
-abbrev Kept : History → Request → Called → Type 0
-Kept w q r = Whole (r .session) (follow w q (r .answer))
+pub history-is : {s : Session} {w : History} → Whole s w → history-of s ≡ w
+unfolding history-of state
+history-is nothing = refl
+history-is (at {E} {N} h l u) = rw (ne-eqb N 0 (λ z. omega arith))
 
--- a refusal with a number above 0 keeps both
-refusing-keeps : {s : Session} {w : History} (q : Request) (r : ℕ) → eqb r 0 ≡ false → Whole s w → Kept w q (refusing r s)
-refusing-keeps q r z h = rw z h
+-- the session after an accepted request
+taken-whole : {s : Session} {w : History} → Whole s w → (q : Request) → refusal w q ≡ 0 → Whole (session-of (taken w q)) (taken w q)
+unfolding refusal refuses-22
+taken-whole h (begin E) z = at {N = 1} (record { passes = z }) (omega arith) (omega arith)
+taken-whole nothing (add count) z = nothing
+taken-whole (at {E} {N} h l u) (add count) z = at {N = N + count} h (omega arith) (ltb-false largest-order (N + count) (passed 21 (refuses-22 N count) 0 z .0))
+taken-whole nothing read z = nothing
+taken-whole (at h l u) read z = at h l u
+taken-whole nothing (bad r) z = nothing
+taken-whole (at h l u) (bad r) z = at h l u
 
-begin-keeps : {s : Session} {w : History} (E : Encounter) → Whole s w → Kept w (begin E) (begin-call E s)
-unfolding begin-call
-begin-keeps {s} {w} E h =
-    by (Kept w (begin E)) (eqb (begin-refusal E) 0)
-    (λ z. at (record { passes = eqb-true (begin-refusal E) 0 z }) (omega arith) (omega arith))
-    (λ z. refusing-keeps (begin E) (begin-refusal E) z h)
+module _ {s : Session} {w : History} (h : Whole s w) (q : Request) where
+  -- what an accepted request is answered
+  done : Called
+  done = record { answer = accepted-answer q (taken w q); session = session-of (taken w q) }
 
-add-keeps : {s : Session} {w : History} (count : ℕ) → Whole s w → Kept w (add count) (add-call count s)
-unfolding add-call state
-add-keeps count nothing = nothing
-add-keeps count (at {E} {N} h l u) =
-    by (Kept (of E N) (add count)) (eqb N 0)
-    (λ z. at h l u)
-    (λ z. by (Kept (of E N) (add count)) (ltb 4096 (N + count)) (λ m. at h l u) (λ m. at h (omega arith) (ltb-false 4096 (N + count) m)))
+  -- the session after any request
+  kept : Whole (outcome w q s .session) (follow w q)
+  unfolding outcome done
+  kept = go (eqb (refusal w q) 0) refl
+    where
+      go : (b : Bool) → eqb (refusal w q) 0 ≡ b → Whole (cond b done (refusing (refusal w q) s) .session) (cond b (taken w q) w)
+      go true e = taken-whole h q (eqb-true (refusal w q) 0 e)
+      go false e = h
 
-read-keeps : {s : Session} {w : History} → Whole s w → Kept w read (read-call s)
-unfolding read-call bracket
-read-keeps {s} {w} h =
-    by (Kept w read) (eqb (s .N) 0) (λ z. h) (λ z. by (Kept w read) (readable (encounter s) (s .N)) (λ r. h) (λ r. h))
+  -- the number that is answered
+  accepted-number : (q : Request) (w : History) → refusal w q ≡ 0 → accepted-answer q (taken w q) .refusal ≡ refusal w q
+  unfolding refusal bracket
+  accepted-number (begin E) w z = sym z
+  accepted-number (add count) no-encounter z = sym z
+  accepted-number (add count) (encounter-at E N) z = sym z
+  accepted-number read no-encounter z = refl
+  accepted-number read (encounter-at E N) z = sym z
+  accepted-number (bad r) w z = refl
 
-bad-keeps : {s : Session} {w : History} (r : ℕ) → Whole s w → Kept w (bad r) (refusing r s)
-bad-keeps {s} {w} r h = go (eqb r 0)
-  where
-    go : (b : Bool) → Whole s (cond b w w)
-    go true = h
-    go false = h
+  number : outcome w q s .answer .refusal ≡ refusal w q
+  unfolding outcome done
+  number = go (eqb (refusal w q) 0) refl
+    where
+      go : (b : Bool) → eqb (refusal w q) 0 ≡ b → cond b done (refusing (refusal w q) s) .answer .refusal ≡ refusal w q
+      go true e = accepted-number q w (eqb-true (refusal w q) 0 e)
+      go false e = refl
 
-keeps : {s : Session} {w : History} (q : Request) → Whole s w → Kept w q (respond q s)
-keeps (begin E) h = begin-keeps E h
-keeps (add count) h = add-keeps count h
-keeps read h = read-keeps h
-keeps (bad r) h = bad-keeps r h
-
--- ---- demand 3
-
--- what a read answers
-abbrev Reads : History → Called → Type 0
-Reads w r = r .answer .refusal ≡ 0 → About w (r .answer)
+-- an accepted read
+Read : History → Called → Type 0
+Read w r = (E : Encounter) × (N : ℕ) × (w ≡ encounter-at E N) × Encloses E N (r .answer)
 
 not-zero : {A : Type 0} (n : ℕ) → suc n ≡ 0 → A
 not-zero n z = let f : ⊥ = omega arith in absurd f
 
-read-claim : {s : Session} {w : History} → Whole s w → Reads w (read-call s)
-unfolding read-call state bracket
-read-claim nothing = not-zero 20
-read-claim (at {E} {N} h l u) =
-    by (Reads (of E N)) (eqb N 0)
-    (λ z. not-zero 20)
-    (λ z.
-    by (Reads (of E N)) (readable E N)
-    (λ r e. record { order-is = refl; lower-is = refl; upper-is = refl; between = enclosed h N l r; close = ends-close h N l })
-    (λ r. not-zero 22))
+enclosing : {s : Session} {w : History} → Whole s w → refusal w read ≡ 0 → Read w (outcome w read s)
+unfolding Read refusal
+enclosing nothing z = not-zero 20 z
+enclosing (at {E} {N} h l u) z = unfold outcome refusal bracket in rw z (
+  E,
+  N,
+  refl,
+  record { order-is = refl; lower-is = refl; upper-is = refl; between = enclosed h N l (passed 22 (refuses-23 E N) 0 z .0); close = ends-close h N l },
+)
 
-claim : {s : Session} {w : History} → Whole s w → (q : Request) → Claim (record { history = w; request = q; answer = respond q s .answer })
-claim {s} {w} h q e z = subst (λ (q : Request). Reads w (respond q s)) (sym e) (read-claim h) z
+-- a call on such a session is what the history tells
+by-history : {s : Session} {w : History} → Whole s w → (c : Call) → call c s ≡ outcome w (asked c) s
+by-history {s} h c = ap (λ (w : History). outcome w (asked c) s) (history-is h)
+
+keeps : {s : Session} {w : History} → Whole s w → (c : Call) → Whole (call c s .session) (follow w (asked c))
+keeps h c = rw (by-history h c) (kept h (asked c))
+
+claim : {s : Session} {w : History} → Whole s w → (c : Call) → Claim (record { history = w; request = asked c; answer = call c s .answer; session = call c s .session })
+unfolding Read
+claim {s} {w} h c = record {
+  number = rw (by-history h c) (number h (asked c));
+  answer = rw (by-history h c) (ap (λ (s : Session). outcome w (asked c) s .answer) (session-is h));
+  session = session-is (keeps h c);
+  enclosed = λ e z. rw (by-history h c, e) (enclosing h z);
+}
 
 every : {s : Session} {w : History} → Whole s w → (cs : List Call) → Every Claim (places s w cs)
 unfolding places
 every h [] = tt
-every h (c ∷ cs) = (claim h (asked c), every (keeps (asked c) h) cs)
+every h (c ∷ cs) = (claim h c, every (keeps h c) cs)
 
-pub demand-3 : Enclosed
-unfolding Enclosed
-demand-3 cs = every nothing cs
+pub demands : Demands
+unfolding Demands
+demands cs = every nothing cs
 
 -- ---- the premise of a call
 
 whole : {s : Session} → Reached s → (w : History) × Whole s w
-whole from-empty = (none, nothing)
-whole (after r c) = let (w, h) = whole r in (_, keeps (asked c) h)
+whole from-empty = (no-encounter, nothing)
+whole (after r c) = let (w, h) = whole r in (_, keeps h c)
 
 begun-whole : {s : Session} {w : History} → Whole s w → (s .N ≡ 0 → ⊥) → Begun s
 unfolding state
@@ -114,11 +135,15 @@ begun-whole (at h l u) z = record { fine = h; low = l; high = u; is = refl }
 pub begun : (s : Session) → Reached s → (s .N ≡ 0 → ⊥) → Begun s
 begun s r z = begun-whole (whole r .1) z
 
-pub order-high : (s : Session) → Reached s → s .N ≤ 4096
+pub order-high : (s : Session) → Reached s → s .N ≤ largest-order
 order-high s r = ⊎-elim (λ z. omega (arith, z)) (λ p. begun s r (λ z. omega arith) .high) (eq-zero-or-pos (s .N))
 
+-- a reached session is that of the history which its fields tell
+pub told : {s : Session} → Reached s → session-of (history-of s) ≡ s
+told r = let (w, h) = whole r in rw (history-is h) (sym (session-is h))
+
 -- "Count 0 is accepted and does nothing."
-pub add-nothing : (s : Session) → Reached s → (s .N ≡ 0 → ⊥) → add-call 0 s ≡ record { answer = counted (s .N); session = s }
-unfolding add-call
+pub add-nothing : (s : Session) → Reached s → (s .N ≡ 0 → ⊥) → call (adds 0) s ≡ record { answer = counted (s .N); session = s }
+unfolding outcome history-of refusal refuses-22
 add-nothing s r z =
-    rw (ne-eqb (s .N) 0 z, add-zero, le-ltb 4096 (s .N) (order-high s r), sym (begun s r z .is))
+    rw (ne-eqb (s .N) 0 z, add-zero, le-ltb largest-order (s .N) (order-high s r), sym (begun s r z .is))

@@ -1,16 +1,17 @@
 -- What a read forms of a session with an encounter: the fields, their ranges, and the two ends.
-use mathlib.Core.Path.{_≡_, _∙_, ap}
-use mathlib.Core.Bool.{Bool, true, false}
+use mathlib.Core.Path.{_≡_, refl, _∙_, ap}
+use mathlib.Core.Bool.{Bool, true, false, not}
 use Prim.Native.Nat.{ℕ, pred, _+_, _^_, _≤_, _<_}
 use native.Mathlib.Omega.{arith}
 use lib.Dec.{lit<, lit≤}
 use Rattle.exact.specs.declared.Scaled.{Scaled}
-use Rattle.exact.specs.Fraction.{_≼_, whole, _⊕_, _⊘_, at-most}
+use Rattle.exact.specs.Fraction.{_≼_, whole, _⊕_, _⊘_, at-most, above}
 use Rattle.exact.specs.Scaled.{one, value, double, Normal, IsScaled}
 use Rattle.exact.specs.Private.Ranges.{InRange}
 use Rattle.exact.specs.Private.Round.{round}
+use Rattle.exact.specs.Numbers.{exponential-cut, largest-order}
 use Rattle.exact.specs.declared.Encounter.{Encounter}
-use Rattle.exact.specs.Steps.{side-letters, side-powers, sum-to, M, d, tail-bound, exponential-with-tail, exponential-sum, lower-end, upper-end}
+use Rattle.exact.specs.Steps.{side-letters, side-powers, sum-to, M, d, tail-bound, exponential-with-tail, exponential-sum, r256, lower-end, upper-end}
 use Rattle.exact.specs.Refusals.{refuses-23}
 use Rattle.exact.proofs.Fractions.{≼-trans, num-pos}
 use Rattle.exact.proofs.Rounding.{round-is}
@@ -21,9 +22,14 @@ use Rattle.exact.proofs.Exponents.{letters-in, powers-in}
 use Rattle.exact.proofs.Enclosure.{up, drop-last, lower-powers-pos, lower-powers-le, le-upper-powers}
 use Rattle.exact.proofs.Accepted.{facts}
 use Rattle.encounter.specs.declared.state.Session.{Session}
-use Rattle.encounter.specs.Session.{side, state, encounter, Begun}
+use Rattle.encounter.specs.Session.{side, state}
+use Rattle.encounter.specs.Private.Held.{Begun}
 use Rattle.encounter.proofs.steps.Opening.{one-in}
 use Rattle.encounter.proofs.steps.Progressing.{M-is, terms-fine, d-range}
+
+pub not-not : (b : Bool) → b ≡ not (not b)
+not-not true = refl
+not-not false = refl
 
 -- a scaled number above 0 has its bits
 pub above-zero : {x : Scaled} → IsScaled 32 x → 0 < value x .num → Normal 32 x
@@ -32,7 +38,7 @@ above-zero {x} n p = normal n (λ z. omega (arith, rw z at p))
 
 module _ (s : Session) (b : Begun s) where
   abbrev pub E : Encounter
-  E = encounter s
+  E = s .encounter
 
   -- ---- the fields
 
@@ -44,15 +50,15 @@ module _ (s : Session) (b : Begun s) where
   unfolding state side sum-to
   upper-sum-is = ap (λ (x : Session). x .upper .terms .sum) (b .is)
 
-  lower-exponential-is : s .lower .exponential ≡ side-powers false E 255 .sum
+  lower-exponential-is : s .lower .exponential ≡ exponential-sum false E
   unfolding state side
   lower-exponential-is = ap (λ (x : Session). x .lower .exponential) (b .is)
 
-  exponential-with-tail-is : s .upper .exponential ≡ side-powers true E 255 .sum
+  upper-exponential-is : s .upper .exponential ≡ exponential-sum true E
   unfolding state side
-  exponential-with-tail-is = ap (λ (x : Session). x .upper .exponential) (b .is)
+  upper-exponential-is = ap (λ (x : Session). x .upper .exponential) (b .is)
 
-  r256-is : s .r256 ≡ side-powers true E 256 .r
+  r256-is : s .r256 ≡ r256 E
   unfolding state
   r256-is = ap (λ (x : Session). x .r256) (b .is)
 
@@ -62,34 +68,38 @@ module _ (s : Session) (b : Begun s) where
 
   -- ---- their ranges
 
-  powers-fine : (up : Bool) (k : ℕ) → k ≤ 256 → (InRange 32 (2 ^ 22) (side-powers up E k .r)) × (InRange 32 (2 ^ 22) (side-powers up E k .sum))
+  powers-fine : (up : Bool) (k : ℕ) → k ≤ exponential-cut → (InRange 32 (2 ^ 22) (side-powers up E k .r)) × (InRange 32 (2 ^ 22) (side-powers up E k .sum))
   unfolding side-powers side-letters
   powers-fine up k l =
       let q = powers-in up one _ one-in (letters-in up (facts (b .fine) .bounds) .t) k (omega arith) in
       (widen (omega arith) (q .r), widen (omega arith) (q .sum))
 
+  sum-fine : (up : Bool) → InRange 32 (2 ^ 22) (exponential-sum up E)
+  unfolding exponential-sum
+  sum-fine up = powers-fine up (pred exponential-cut) (lit≤ tt) .1
+
   pub lower-sum-fine : InRange 32 (2 ^ 22) (s .lower .terms .sum)
   unfolding sum-to
   lower-sum-fine = rw lower-sum-is (terms-fine s b (pred (s .N)) (pred-high (s .N) (b .high)) false .sum)
     where
-      pred-high : (n : ℕ) → n ≤ 4096 → pred n ≤ 4096
+      pred-high : (n : ℕ) → n ≤ largest-order → pred n ≤ largest-order
       pred-high n l = omega arith
 
   pub upper-sum-fine : InRange 32 (2 ^ 22) (s .upper .terms .sum)
   unfolding sum-to
   upper-sum-fine = rw upper-sum-is (terms-fine s b (pred (s .N)) (pred-high (s .N) (b .high)) true .sum)
     where
-      pred-high : (n : ℕ) → n ≤ 4096 → pred n ≤ 4096
+      pred-high : (n : ℕ) → n ≤ largest-order → pred n ≤ largest-order
       pred-high n l = omega arith
 
   pub lower-exponential-fine : InRange 32 (2 ^ 22) (s .lower .exponential)
-  lower-exponential-fine = rw lower-exponential-is (powers-fine false 255 (lit≤ tt) .1)
+  lower-exponential-fine = rw lower-exponential-is (sum-fine false)
 
-  pub exponential-with-tail-fine : InRange 32 (2 ^ 22) (s .upper .exponential)
-  exponential-with-tail-fine = rw exponential-with-tail-is (powers-fine true 255 (lit≤ tt) .1)
+  pub upper-exponential-fine : InRange 32 (2 ^ 22) (s .upper .exponential)
+  upper-exponential-fine = rw upper-exponential-is (sum-fine true)
 
   pub r256-fine : InRange 32 (2 ^ 22) (s .r256)
-  r256-fine = rw r256-is (powers-fine true 256 (lit≤ tt) .0)
+  r256-fine = rw r256-is (unfold r256 in powers-fine true exponential-cut (lit≤ tt) .0)
 
   pub d-fine : InRange 32 (2 ^ 22) (s .d)
   d-fine = rw d-is (d-range s b (s .N) (b .high))
@@ -97,11 +107,11 @@ module _ (s : Session) (b : Begun s) where
   -- ---- the divisors are above 0
 
   pub lower-exponential-normal : Normal 32 (s .lower .exponential)
-  lower-exponential-normal = above-zero (lower-exponential-fine .is-scaled) (rw lower-exponential-is (lower-powers-pos E 255))
+  lower-exponential-normal = above-zero (lower-exponential-fine .is-scaled) (rw lower-exponential-is (unfold exponential-sum in lower-powers-pos E (pred exponential-cut)))
 
-  pub exponential-with-tail-normal : (y : Scaled) {x : Scaled} → x ≡ round true 32 (value (s .upper .exponential) ⊕ value y) → Normal 32 x
-  exponential-with-tail-normal y e =
-      let p : 0 < value (s .upper .exponential) .num = rw exponential-with-tail-is (num-pos (≼-trans (lower-powers-le E 255) (le-upper-powers E 255)) (lower-powers-pos E 255)) in
+  pub divisor-normal : (y : Scaled) {x : Scaled} → x ≡ round true 32 (value (s .upper .exponential) ⊕ value y) → Normal 32 x
+  divisor-normal y e =
+      let p : 0 < value (s .upper .exponential) .num = rw upper-exponential-is (unfold exponential-sum in num-pos (≼-trans (lower-powers-le E (pred exponential-cut)) (le-upper-powers E (pred exponential-cut))) (lower-powers-pos E (pred exponential-cut))) in
       let q : value (s .upper .exponential) ≼ value (round true 32 (value (s .upper .exponential) ⊕ value y)) = ≼-trans (drop-last _ (value y)) (up _) in
       rw e (above-zero (round-is true 32 _ (lit< tt) .is-scaled) (num-pos q p))
 
@@ -109,26 +119,26 @@ module _ (s : Session) (b : Begun s) where
 
   pub lower-end-is : {x y r : Scaled} → y ≡ double (s .r256) → x ≡ round true 32 (value (s .upper .exponential) ⊕ value y) → r ≡ round false 32 (value (s .lower .terms .sum) ⊘ value x) → r ≡ lower-end E (s .N)
   unfolding lower-end exponential-with-tail
-  lower-end-is ey ex er = er ∙ rw (ex, ey, ← sum-double true 32 (s .upper .exponential) (s .r256) (lit< tt), lower-sum-is, exponential-with-tail-is, r256-is)
+  lower-end-is ey ex er = er ∙ rw (ex, ey, ← sum-double true 32 (s .upper .exponential) (s .r256) (lit< tt), lower-sum-is, upper-exponential-is, r256-is)
 
   pub upper-end-is : {x y r : Scaled} → y ≡ double (s .d) → x ≡ round true 32 (value (s .upper .terms .sum) ⊕ value y) → r ≡ round true 32 (value x ⊘ value (s .lower .exponential)) → r ≡ upper-end E (s .N)
-  unfolding upper-end tail-bound lower-exponential
+  unfolding upper-end tail-bound
   upper-end-is ey ex er = er ∙ rw (ex, ey, ← sum-double true 32 (s .upper .terms .sum) (s .d) (lit< tt), upper-sum-is, lower-exponential-is, d-is)
 
   pub lower-end-fine : {x : Scaled} → x ≡ lower-end E (s .N) → InRange 32 (2 ^ 28) x
   unfolding lower-end
   lower-end-fine e =
       rw (e, ← lower-sum-is)
-      (widen (lit≤ tt) (per-range false 32 (lit< tt) lower-sum-fine (whole-range (exponential-with-tail E) formed) (exponential-with-tail-normal (double (s .r256)) formed)))
+      (widen (lit≤ tt) (per-range false 32 (lit< tt) lower-sum-fine (whole-range (exponential-with-tail E) formed) (divisor-normal (double (s .r256)) formed)))
     where
       formed : exponential-with-tail E ≡ round true 32 (value (s .upper .exponential) ⊕ value (double (s .r256)))
-      formed = unfold exponential-with-tail in rw (← exponential-with-tail-is, ← r256-is) (sum-double true 32 (s .upper .exponential) (s .r256) (lit< tt))
+      formed = unfold exponential-with-tail in rw (← upper-exponential-is, ← r256-is) (sum-double true 32 (s .upper .exponential) (s .r256) (lit< tt))
 
       whole-range : (x : Scaled) → x ≡ round true 32 (value (s .upper .exponential) ⊕ value (double (s .r256))) → InRange 32 (2 ^ 22 + 3) x
-      whole-range x e = rw e (sum-range true 32 (lit< tt) (widen (lit≤ tt) exponential-with-tail-fine) (double-range r256-fine))
+      whole-range x e = rw e (sum-range true 32 (lit< tt) (widen (lit≤ tt) upper-exponential-fine) (double-range r256-fine))
 
   -- ---- test 23
 
-  pub may-read-is : {x y : Scaled} {r : Bool} → x ≡ double (s .M) → y ≡ round false 32 (whole (s .N + 2)) → r ≡ at-most (value x) (value y) → r ≡ readable E (s .N)
-  unfolding readable
-  may-read-is {x} {y} ex ey er = er ∙ rw (ex, ey) (at-most-cong _ _ _ _ (rw (← M-is s b) (double-exact (s .M))) (whole-exact false 32 (s .N + 2) (lit< tt) (omega (arith, b .high))))
+  pub may-read-is : {x y : Scaled} {r : Bool} → x ≡ double (s .M) → y ≡ round false 32 (whole (s .N + 2)) → r ≡ at-most (value x) (value y) → r ≡ not (refuses-23 E (s .N))
+  unfolding refuses-23 above
+  may-read-is {x} {y} ex ey er = er ∙ rw (ex, ey) (at-most-cong _ _ _ _ (rw (← M-is s b) (double-exact (s .M))) (whole-exact false 32 (s .N + 2) (lit< tt) (omega (arith, b .high))) ∙ not-not _)

@@ -5,7 +5,7 @@ use mathlib.Core.List.{List}
 use Prim.Native.Nat.{ℕ, zero, suc, _+_, _-_, _≤_, _<_}
 use native.Mathlib.Omega.{arith}
 use native.Mathlib.Nat.{zero-add, add-zero}
-use borrow.Author.Tests.{lt-ltb, le-ltb, eq-eqb, ne-eqb}
+use borrow.Author.Tests.{lt-ltb, le-ltb, le-leb, lt-leb, eq-eqb, ne-eqb}
 use borrow.Author.Needs.{sfits-of}
 use lib.Dec.{eqb}
 use lib.ListN.{length, getD}
@@ -13,14 +13,17 @@ use lib.IntN.{pos, negsuc, _-ℤ_}
 use mir.Syntax.{w32}
 use mir.Val.{SFits, toZ}
 use mir.ValLaws.{toZ-pos}
+use Rattle.exact.specs.declared.Encounter.{Encounter}
+use Rattle.exact.specs.Records.{is-kind, body, u16-at, signed, begin-at, Request, begin, add, read, bad, request-of}
+use Rattle.exact.specs.Refusals.{refuses-1, refuses-2, request-at, History, refusal}
 use Rattle.encounter.specs.declared.state.Session.{Session}
 use Rattle.encounter.specs.declared.state.Answer.{Answer}
 use Rattle.encounter.specs.declared.state.Called.{Called}
 use Rattle.encounter.specs.declared.state.Taken.{Taken}
-use Rattle.exact.specs.declared.Encounter.{Encounter}
-use Rattle.exact.specs.Refusals.{refuses-23}
-use Rattle.encounter.specs.Session.{encounter, refused, refusing, bracket}
-use Rattle.encounter.specs.Calls.{Request, begin, add, read, bad, begin-at, u16-at, signed, begin-call, add-call, read-call, request-of, request-at, taken, record-call, Reached, after, takes}
+use Rattle.encounter.specs.Session.{refused}
+use Rattle.encounter.specs.Calls.{taken, session-of, history-of, accepted-answer, refusing, outcome, begins, adds, reads, takes, call, next-at, record-call, Reached, after}
+use Rattle.encounter.proofs.calls.Answering.{refused-is}
+use Rattle.encounter.proofs.calls.Invariant.{told}
 
 -- ---- two's signed
 
@@ -42,71 +45,80 @@ pub signed-high : (x : ℕ) → 2147483648 ≤ x → negsuc (4294967295 - x) ≡
 unfolding signed
 signed-high x h = rw (le-ltb x 2147483648 h)
 
--- ---- the request at a position
+-- ---- the request at a position, and the next position
+
+abbrev pub At : List ℕ → ℕ → Request → ℕ → Type 0
+At l i q j = (request-at l i ≡ q) × (next-at l i ≡ j)
 
 module _ (l : List ℕ) (i : ℕ) where
-  pub no-byte : length l ≤ i → request-at l i ≡ bad 1
-  unfolding request-at
-  no-byte h = rw (le-ltb i (length l) h)
+  pub no-byte : length l ≤ i → At l i (bad 1) i
+  unfolding request-at next-at refuses-1
+  no-byte h = (rw (le-leb (length l) i h), rw (le-leb (length l) i h))
 
   module _ (h : i < length l) where
-    pub begin-short : getD l i 0 ≡ 1 → length l - i < 21 → request-at l i ≡ bad 2
-    unfolding request-at request-of
-    begin-short k m = rw (lt-ltb i (length l) h, eq-eqb (getD l i 0) 1 k, lt-ltb (length l) (i + 1 + 20) (omega arith))
+    pub begin-short : getD l i 0 ≡ 1 → length l - i < 21 → At l i (bad 2) i
+    unfolding request-at next-at refuses-1 refuses-2 is-kind body
+    begin-short k m = let e = lt-ltb (length l) (i + 1 + 20) (omega arith) in (rw (lt-leb (length l) i h, k, e), rw (lt-leb (length l) i h, k, e))
 
-    pub begin-whole : getD l i 0 ≡ 1 → 21 ≤ length l - i → request-at l i ≡ begin (begin-at l (i + 1))
-    unfolding request-at request-of
-    begin-whole k m = rw (lt-ltb i (length l) h, eq-eqb (getD l i 0) 1 k, le-ltb (length l) (i + 1 + 20) (omega arith))
+    pub begin-whole : getD l i 0 ≡ 1 → 21 ≤ length l - i → At l i (begin (begin-at l (i + 1))) (i + 21)
+    unfolding request-at next-at request-of refuses-1 refuses-2 is-kind body
+    begin-whole k m = let e = le-ltb (length l) (i + 1 + 20) (omega arith) in (rw (lt-leb (length l) i h, k, e), let n : next-at l i ≡ i + 1 + 20 = rw (lt-leb (length l) i h, k, e) in n ∙ omega arith)
 
-    module _ (one : getD l i 0 ≡ 1 → ⊥) where
-      pub add-short : getD l i 0 ≡ 2 → length l - i < 3 → request-at l i ≡ bad 2
-      unfolding request-at request-of
-      add-short k m = rw (lt-ltb i (length l) h, ne-eqb (getD l i 0) 1 one, eq-eqb (getD l i 0) 2 k, lt-ltb (length l) (i + 1 + 2) (omega arith))
+    pub add-short : getD l i 0 ≡ 2 → length l - i < 3 → At l i (bad 2) i
+    unfolding request-at next-at refuses-1 refuses-2 is-kind body
+    add-short k m = let e = lt-ltb (length l) (i + 1 + 2) (omega arith) in (rw (lt-leb (length l) i h, k, e), rw (lt-leb (length l) i h, k, e))
 
-      pub add-whole : getD l i 0 ≡ 2 → 3 ≤ length l - i → request-at l i ≡ add (u16-at l (i + 1))
-      unfolding request-at request-of
-      add-whole k m = rw (lt-ltb i (length l) h, ne-eqb (getD l i 0) 1 one, eq-eqb (getD l i 0) 2 k, le-ltb (length l) (i + 1 + 2) (omega arith))
+    pub add-whole : getD l i 0 ≡ 2 → 3 ≤ length l - i → At l i (add (u16-at l (i + 1))) (i + 3)
+    unfolding request-at next-at request-of refuses-1 refuses-2 is-kind body
+    add-whole k m = let e = le-ltb (length l) (i + 1 + 2) (omega arith) in (rw (lt-leb (length l) i h, k, e), let n : next-at l i ≡ i + 1 + 2 = rw (lt-leb (length l) i h, k, e) in n ∙ omega arith)
 
-      module _ (two : getD l i 0 ≡ 2 → ⊥) where
-        pub a-read : getD l i 0 ≡ 3 → request-at l i ≡ read
-        unfolding request-at request-of
-        a-read k = rw (lt-ltb i (length l) h, ne-eqb (getD l i 0) 1 one, ne-eqb (getD l i 0) 2 two, eq-eqb (getD l i 0) 3 k)
+    pub a-read : getD l i 0 ≡ 3 → At l i read (i + 1)
+    unfolding request-at next-at request-of refuses-1 refuses-2 is-kind body
+    a-read k = let e = le-ltb (length l) (i + 1 + 0) (omega arith) in (rw (lt-leb (length l) i h, k, e), let n : next-at l i ≡ i + 1 + 0 = rw (lt-leb (length l) i h, k, e) in n ∙ omega arith)
 
-        pub no-kind : (getD l i 0 ≡ 3 → ⊥) → request-at l i ≡ bad 1
-        unfolding request-at request-of
-        no-kind k = rw (lt-ltb i (length l) h, ne-eqb (getD l i 0) 1 one, ne-eqb (getD l i 0) 2 two, ne-eqb (getD l i 0) 3 k)
+    pub no-kind : (getD l i 0 ≡ 1 → ⊥) → (getD l i 0 ≡ 2 → ⊥) → (getD l i 0 ≡ 3 → ⊥) → At l i (bad 1) i
+    unfolding request-at next-at refuses-1 is-kind
+    no-kind a b c =
+        let x = ne-eqb (getD l i 0) 1 a in
+        let y = ne-eqb (getD l i 0) 2 b in
+        let z = ne-eqb (getD l i 0) 3 c in
+        (rw (lt-leb (length l) i h, x, y, z), rw (lt-leb (length l) i h, x, y, z))
 
 -- ---- its call
 
-read-keeps : (s : Session) → read-call s .session ≡ s
-unfolding read-call
-read-keeps s = either (eqb (s .N) 0) (readable (encounter s) (s .N))
-  where
-    either : (a b : Bool) → (cond a (refusing 21 s) (cond b (record { answer = bracket (encounter s) (s .N); session = s }) (refusing 23 s))) .session ≡ s
-    either true b = refl
-    either false true = refl
-    either false false = refl
+module _ (l : List ℕ) (i : ℕ) (s : Session) (h : Reached s) where
+  -- a record's call, from the request's
+  pub answered : (q : Request) (j : ℕ) (t : Taken) → At l i q j
+      → t ≡ record { answer = outcome (history-of s) q s .answer; next = j; session = outcome (history-of s) q s .session }
+      → (t ≡ record-call l i s) × Reached (t .session)
+  unfolding record-call
+  answered q j t (e, f) g =
+      let k : t ≡ record-call l i s = g ∙ rw (e, f) in
+      (k, subst (λ (x : Taken). Reached (x .session)) (sym k) (after h (takes l i)))
 
--- the call of a request is the record's call, and keeps the premise
-pub answered :
-    (l : List ℕ) (i : ℕ) (s : Session) (q : Request) (t : Taken) →
-    Reached s →
-    request-at l i ≡ q →
-    t ≡ taken q i s →
-    (t ≡ record-call l i s) × Reached (t .session)
-unfolding record-call
-answered l i s q t h e f =
-    let g : t ≡ taken (request-at l i) i s = f ∙ ap (λ (x : Request). taken x i s) (sym e) in
-    (g, subst (λ (x : Taken). Reached (x .session)) (sym g) (after h (takes l i)))
+  -- refused as 1 or 2
+  pub stopped : (r : ℕ) (t : Taken) → (r ≡ 0 → ⊥) → At l i (bad r) i → t ≡ record { answer = refused r; next = i; session = s }
+      → (t ≡ record-call l i s) × Reached (t .session)
+  stopped r t some e f =
+      let g : record { answer = refused r; session = s } ≡ outcome (history-of s) (bad r) s = refused-is s (bad r) r (unfold refusal in refl) some refl in
+      answered (bad r) i t e (f ∙ ap (λ (c : Called). record { answer = c .answer; next = i; session = c .session }) g)
 
-pub begin-taken : (i : ℕ) (s : Session) (E : Encounter) {c : Called} → c ≡ begin-call E s → record { recorded = record { answer = c .answer; next = i + 21 }; session = c .session } ≡ taken (begin E) i s
-begin-taken i s E e = rw e
+  -- a begin or an add
+  pub called : (q : Request) (j : ℕ) (c : Called) (t : Taken) → At l i q j → c ≡ outcome (history-of s) q s → t ≡ record { answer = c .answer; next = j; session = c .session }
+      → (t ≡ record-call l i s) × Reached (t .session)
+  called q j c t e f g = answered q j t e (rw f at g)
 
-pub add-taken : (i : ℕ) (s : Session) (count : ℕ) {c : Called} → c ≡ add-call count s → record { recorded = record { answer = c .answer; next = i + 3 }; session = c .session } ≡ taken (add count) i s
-add-taken i s count e = rw e
+  -- a read leaves the session
+  read-keeps : outcome (history-of s) read s .session ≡ s
+  unfolding outcome
+  read-keeps = go (eqb (refusal (history-of s) read) 0)
+    where
+      done : Called
+      done = record { answer = accepted-answer read (history-of s); session = session-of (history-of s) }
 
-pub read-taken : (i : ℕ) (s : Session) {a : Answer} → a ≡ read-call s .answer → record { recorded = record { answer = a; next = i + 1 }; session = s } ≡ taken read i s
-read-taken i s e = rw (e, read-keeps s)
+      go : (b : Bool) → cond b done (refusing (refusal (history-of s) read) s) .session ≡ s
+      go true = told h
+      go false = refl
 
-pub stopped : (r i : ℕ) (s : Session) → record { recorded = record { answer = refused r; next = i }; session = s } ≡ taken (bad r) i s
-stopped r i s = rw add-zero
+  pub read-at : (j : ℕ) (a : Answer) → At l i read j → a ≡ call reads s .answer → (record { answer = a; next = j; session = s } ≡ record-call l i s) × Reached s
+  read-at j a e f = answered read j (record { answer = a; next = j; session = s }) e (rw (f, read-keeps))

@@ -1,5 +1,10 @@
--- The session and the answers as LendOne.antt takes them.
+-- The session, the inputs and the answers as LendOne.antt takes them, and what a lent call of this crate promises.
+use mathlib.Core.Path.{_≡_, ap}
 use denote.Struct.Laws as laws
+use Rattle.encounter.specs.declared.state.Session.{Session}
+use Rattle.encounter.specs.declared.state.Answer.{Answer}
+use Rattle.encounter.specs.declared.state.Called.{Called}
+use Rattle.encounter.specs.Calls.{Call, call, Reached}
 use Rattle.encounter.proofs.calls.LendOne.{Plainly, Pairs, of-struct}
 use Rattle.encounter.proofs.state.Session as S
 use Rattle.encounter.proofs.state.Session.Laws as S′
@@ -7,10 +12,8 @@ use Rattle.encounter.proofs.state.Answer as A
 use Rattle.encounter.proofs.state.Answer.Laws as A′
 use Rattle.encounter.proofs.state.Called as C
 use Rattle.encounter.proofs.state.Called.Laws as C′
-use Rattle.encounter.proofs.state.Recorded as R
-use Rattle.encounter.proofs.state.Recorded.Laws as R′
-use Rattle.encounter.proofs.state.Taken as T
-use Rattle.encounter.proofs.state.Taken.Laws as T′
+use Rattle.exact.proofs.Encounter as E
+use Rattle.exact.proofs.Encounter.Laws as E′
 
 abbrev pub session : Plainly
 session = of-struct S.the-type S′.the-laws S′.the-plain S′.the-copy
@@ -29,16 +32,16 @@ called = record {
   knows = λ r vs is. (laws.owed C.the-type C′.the-laws r vs is .0, laws.owed C.the-type C′.the-laws r vs is .1 .0);
 }
 
-abbrev pub recorded : Plainly
-recorded = of-struct R.the-type R′.the-laws R′.the-plain R′.the-copy
+abbrev pub inputs : Plainly
+inputs = of-struct E.the-type E′.the-laws E′.the-plain E′.the-copy
 
-abbrev pub taken : Pairs recorded session
-taken = record {
-  row = T.the-row;
-  name = T.struct .name;
-  answer = λ r. r .recorded;
-  session = λ r. r .session;
-  tells = laws.tells T.the-type T′.the-laws;
-  typed = λ 𝓤 H A W r v is. laws.lawful T.the-type T′.the-laws 𝓤 H A W .typed r _ is .0;
-  knows = λ r vs is. (laws.owed T.the-type T′.the-laws r vs is .0, laws.owed T.the-type T′.the-laws r vs is .1 .0);
-}
+-- a call with one argument: by value, and lent
+module _ {A : Type 0} (of : A → Call) where
+  abbrev pub Post : Session → A → Called → Type 0
+  Post s x r = (r ≡ call (of x) s) × Reached (r .session)
+
+  abbrev pub Post′ : Session → A → Answer → Session → Type 0
+  Post′ s x a s′ = (a ≡ call (of x) s .answer) × (s′ ≡ call (of x) s .session) × Reached s′
+
+  pub gives : (s : Session) (x : A) (r : Called) → Reached s → Post s x r → Post′ s x (r .answer) (r .session)
+  gives s x r h e = (ap (λ (z : Called). z .answer) (e .0), ap (λ (z : Called). z .session) (e .0), e .1)

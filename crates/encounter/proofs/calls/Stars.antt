@@ -1,44 +1,55 @@
--- The ★ cases hold: each row computes, but the answers for xm = −8, which are those for 8 at every order.
-use mathlib.Core.Path.{_≡_, refl}
-use mathlib.Core.Bool.{Bool, true, false, cond}
+-- The ★ cases hold: each row computes, but the answers for xm = −8, which are those for 8 at every order. With them, all that `Session::empty` promises.
+use mathlib.Core.Path.{_≡_, refl, sym, _∙_, ap}
+use mathlib.Core.Bool.{Bool, true, false, not, cond}
 use lib.Dec.{eqb}
 use Prim.Native.Nat.{ℕ}
 use lib.Ieee.{size, span, climb}
-use Rattle.exact.specs.Fraction.{_over_, whole, _⊕_, _⊗_, _÷_, _↑_, at-most}
+use Rattle.exact.specs.declared.Encounter.{Encounter}
+use Rattle.exact.specs.Fraction.{_over_, whole, _⊕_, _⊗_, _÷_, _↑_, at-most, above, sum}
 use Rattle.exact.specs.Scaled.{value}
 use Rattle.exact.specs.Private.Round.{round, pack, finish, spare, inexact}
-use Rattle.exact.specs.Series.{square, u, b, zx, zy, g, h, X, Y, t, a₀, factorial, dot, F-without-Y, F, upto, a, c}
+use Rattle.exact.specs.Series.{mirrored, square, u, b, zx, zy, g, h, X, Y, t, a₀, factorial, dot, F-without-Y, F, upto, a, c, series, exponential-term, exponential}
 use Rattle.exact.specs.Steps.{add, mul, div, letters, start, first, next-c, next-p, next-v, next-y, next, terms, bound, next-d, tail-term, side-letters, side-start, side-terms, M, d, tail-bound}
-use Rattle.exact.specs.Refusals.{refuses-23, outside, miss-outside, begin-refusal}
-use Rattle.exact.specs.Private.Ranges.{tests-3-to-6}
-use Rattle.exact.proofs.Mirror.{mirrored, lower-mirror, upper-mirror, alert-mirror, readable-mirror, refusal-mirror}
-use Rattle.exact.specs.declared.Encounter.{Encounter}
+use Rattle.exact.specs.Refusals.{outside, miss-outside, refuses-3, refuses-4, refuses-5, refuses-6, refuses-7, begin-refusal, refuses-23, refusal, History, no-encounter, encounter-at}
+use Rattle.exact.specs.Records.{Request, begin, read}
+use Rattle.exact.proofs.Mirror.{lower-mirror, upper-mirror, read-mirror, refusal-mirror}
 use Rattle.encounter.specs.declared.state.Session.{Session}
 use Rattle.encounter.specs.declared.state.Answer.{Answer}
-use Rattle.encounter.specs.Session.{empty, state, counted, refusing, bracket}
-use Rattle.encounter.specs.Calls.{begin-call, read-call}
+use Rattle.encounter.specs.Session.{empty, state, refused, bracket}
+use Rattle.encounter.specs.Calls.{taken, session-of, history-of, accepted-answer, refusing, outcome, begins, reads, call}
 use Rattle.encounter.specs.Stars.{E₂, All, stars}
 
--- the answer of a call does not depend on the session that goes with it
-begin-answer : (a : Bool) (r : ℕ) (S T s : Session) → (cond a (record { answer = counted 1; session = S }) (refusing r s)) .answer ≡ (cond a (record { answer = counted 1; session = T }) (refusing r s)) .answer
-begin-answer true r S T s = refl
-begin-answer false r S T s = refl
+-- the answer of a request depends on its refusal's number and on what it is answered where that is 0
+answer-of : (w : History) (q : Request) (s : Session) → outcome w q s .answer ≡ cond (eqb (refusal w q) 0) (accepted-answer q (taken w q)) (refused (refusal w q))
+unfolding outcome
+answer-of w q s = go (eqb (refusal w q) 0)
+  where
+    go : (b : Bool) → cond b (record { answer = accepted-answer q (taken w q); session = session-of (taken w q) }) (refusing (refusal w q) s) .answer ≡ cond b (accepted-answer q (taken w q)) (refused (refusal w q))
+    go true = refl
+    go false = refl
 
-read-answer : (a b : Bool) (x : Answer) (S T : Session) → (cond a (refusing 21 S) (cond b (record { answer = x; session = S }) (refusing 23 S))) .answer ≡ (cond a (refusing 21 T) (cond b (record { answer = x; session = T }) (refusing 23 T))) .answer
-read-answer true b x S T = refl
-read-answer false true x S T = refl
-read-answer false false x S T = refl
+pub mirror-begin : (E : Encounter) → call (begins (mirrored E)) empty .answer ≡ call (begins E) empty .answer
+unfolding refusal
+mirror-begin E = answer-of (history-of empty) (begin (mirrored E)) empty ∙ rw (refusal-mirror E) (sym (answer-of (history-of empty) (begin E) empty))
 
-pub begin-mirror : (E : Encounter) (s : Session) → begin-call (mirrored E) s .answer ≡ begin-call E s .answer
-unfolding begin-call
-begin-mirror E s = rw (refusal-mirror E) (begin-answer (eqb (begin-refusal E) 0) (begin-refusal E) (state (mirrored E) 1) (state E 1) s)
+bracket-mirror : (E : Encounter) (N : ℕ) → bracket (mirrored E) N ≡ bracket E N
+unfolding bracket
+bracket-mirror E N = rw (lower-mirror E N, upper-mirror E N)
 
-pub read-mirror : (E : Encounter) (N : ℕ) → read-call (state (mirrored E) N) .answer ≡ read-call (state E N) .answer
-unfolding read-call state bracket
-read-mirror E N =
-    rw (readable-mirror E N, lower-mirror E N, upper-mirror E N, alert-mirror E N)
-    (read-answer (eqb N 0) (readable E N) (bracket E N) (state (mirrored E) N) (state E N))
+read-of : (w : History) → Answer
+read-of w = cond (eqb (refusal w read) 0) (accepted-answer read w) (refused (refusal w read))
+
+-- at N = 0 both tell no encounter
+same-history : (E : Encounter) (N : ℕ) (b : Bool) → read-of (cond b no-encounter (encounter-at (mirrored E) N)) ≡ read-of (cond b no-encounter (encounter-at E N))
+unfolding read-of refusal
+same-history E N true = refl
+same-history E N false = rw (read-mirror E N, bracket-mirror E N)
+
+pub mirror-read : (E : Encounter) (N : ℕ) → call reads (state (mirrored E) N) .answer ≡ call reads (state E N) .answer
+unfolding history-of state read-of
+mirror-read E N =
+    answer-of (history-of (state (mirrored E) N)) read (state (mirrored E) N) ∙ same-history E N (eqb N 0) ∙ sym (answer-of (history-of (state E N)) read (state E N))
 
 pub stars-hold : All stars
-unfolding stars round pack finish spare inexact _over_ whole _⊕_ _⊗_ _÷_ _↑_ at-most value size span climb square u b zx zy g h X Y t a₀ factorial dot F-without-Y F upto a c add mul div letters start first next-c next-p next-v next-y next terms bound next-d tail-term side-letters side-start side-terms M d tail-bound readable outside miss-outside tests-3-to-6 begin-refusal begin-call read-call state bracket
-stars-hold = (refl, (refl, (refl, (refl, (refl, (refl, (refl, (refl, (record { eq = refl }, (record { eq = refl }, (record { eq = refl }, (record { eq = refl }, (record { eq = refl }, (refl, (refl, (refl, (refl, (refl, (refl, (refl, (refl, (refl, (refl, (record { eq = refl }, (record { eq = refl }, (refl, (record { eq = refl }, (record { eq = refl }, (record { eq = refl }, (refl, (record { eq = refl }, (refl, (refl, (refl, (begin-mirror E₂ empty, (read-mirror E₂ 2109, (read-mirror E₂ 2110, tt)))))))))))))))))))))))))))))))))))))
+unfolding stars round pack finish spare inexact _over_ whole _⊕_ _⊗_ _÷_ _↑_ at-most value size span climb square u b zx zy g h X Y t a₀ factorial dot F-without-Y F upto a c add mul div letters start first next-c next-p next-v next-y next terms bound next-d tail-term side-letters side-start side-terms M d tail-bound above outside miss-outside refuses-3 refuses-4 refuses-5 refuses-6 refuses-7 begin-refusal refuses-23 refusal history-of outcome state bracket series exponential-term exponential sum
+stars-hold = (refl, (refl, (refl, (refl, (refl, (refl, (refl, (refl, (record { eq = refl }, (record { eq = refl }, (record { eq = refl }, (record { eq = refl }, (record { eq = refl }, (refl, (refl, (refl, (refl, (refl, (refl, (refl, (refl, (refl, (refl, (record { eq = refl }, (record { eq = refl }, (refl, (record { eq = refl }, (record { eq = refl }, (record { eq = refl }, (refl, (record { eq = refl }, (refl, (refl, (refl, (mirror-begin E₂, (mirror-read E₂ 2109, (mirror-read E₂ 2110, (record { eq = refl }, (record { eq = refl }, (record { eq = refl }, (record { eq = refl }, (record { eq = refl }, (record { eq = refl }, (record { eq = refl }, (record { eq = refl }, (record { eq = refl }, (record { eq = refl }, (record { eq = refl }, (record { eq = refl }, (record { eq = refl }, (record { eq = refl }, (record { eq = refl }, (record { eq = refl }, tt)))))))))))))))))))))))))))))))))))))))))))))))))))))

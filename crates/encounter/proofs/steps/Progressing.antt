@@ -8,6 +8,7 @@ use Rattle.exact.specs.declared.Scaled.{Scaled}
 use Rattle.exact.specs.Scaled.{value}
 use Rattle.exact.specs.Private.Ranges.{InRange, Letters-in, Terms-in}
 use Rattle.exact.specs.Private.Round.{round}
+use Rattle.exact.specs.Numbers.{largest-order}
 use Rattle.exact.specs.declared.Encounter.{Encounter}
 use Rattle.exact.specs.Steps.{LettersOf, TermsOf, next, next-d, terms, tail-term, side-letters, side-start, side-terms, M, d}
 use Rattle.exact.proofs.Accepted.{facts}
@@ -20,13 +21,14 @@ use Rattle.encounter.specs.declared.steps.progress.Progress.{Progress}
 use Rattle.encounter.specs.declared.arithmetic.wide.Wide.{Wide}
 use Rattle.encounter.specs.declared.steps.sides.LetterPairs.{LetterPairs}
 use Rattle.encounter.specs.declared.steps.sides.TermPairs.{TermPairs}
-use Rattle.encounter.specs.Session.{held-letters, step-letters, held-terms, step-terms, side, state, encounter, progress, Begun}
-use Rattle.encounter.specs.Wide.{narrow, letters-of, terms-of}
+use Rattle.encounter.specs.Session.{side, state}
+use Rattle.encounter.specs.Private.Held.{held-letters, step-letters, held-terms, step-terms, progress, Begun}
+use Rattle.encounter.specs.Private.Loops.{narrow, letters-of, terms-of}
 use Rattle.encounter.proofs.steps.Pairs.{by-side}
 
 module _ (s : Session) (b : Begun s) where
   abbrev pub E : Encounter
-  E = encounter s
+  E = s .encounter
 
   pub lower-letters-are : s .lower .letters ≡ held-letters (side-letters false E)
   unfolding state side
@@ -48,7 +50,7 @@ module _ (s : Session) (b : Begun s) where
   M-fine = rw M-is M-range
 
   -- at index n
-  module _ (n : ℕ) (nl : n ≤ 4096) where
+  module _ (n : ℕ) (nl : n ≤ largest-order) where
     small : 700 * n + 400 ≤ 2 ^ 22
     small = omega arith
 
@@ -58,7 +60,7 @@ module _ (s : Session) (b : Begun s) where
         let q = terms-in up _ (letters-in up (facts (b .fine) .bounds)) (start-in up (facts (b .fine) .bounds)) n nl in
         record { c = widen small (q .c); p = widen small (q .p); v = widen small (q .v); y = widen small (q .y); sum = widen small (q .sum) }
 
-  pub d-range : (n : ℕ) → n ≤ 4096 → InRange 32 (2 ^ 22) (d E n)
+  pub d-range : (n : ℕ) → n ≤ largest-order → InRange 32 (2 ^ 22) (d E n)
   unfolding d side-start M side-letters
   d-range n nl = widen (omega arith) (tail-in true (start-in true (facts (b .fine) .bounds)) (bound-in true _ (letters-in true (facts (b .fine) .bounds))) n nl)
 
@@ -78,22 +80,22 @@ module _ (s : Session) (b : Begun s) where
   order : s .N ≡ suc (s .N - 1)
   order = omega (arith, b .low)
 
-  lower-terms-are : step-terms (s .lower .terms) ≡ side-terms false (encounter s) (s .N - 1)
+  lower-terms-are : step-terms (s .lower .terms) ≡ side-terms false (s .encounter) (s .N - 1)
   unfolding state side
-  lower-terms-are = ap (λ (x : Session). step-terms (x .lower .terms)) (b .is) ∙ ap (side-terms false (encounter s)) index
+  lower-terms-are = ap (λ (x : Session). step-terms (x .lower .terms)) (b .is) ∙ ap (side-terms false (s .encounter)) index
 
-  upper-terms-are : step-terms (s .upper .terms) ≡ side-terms true (encounter s) (s .N - 1)
+  upper-terms-are : step-terms (s .upper .terms) ≡ side-terms true (s .encounter) (s .N - 1)
   unfolding state side
-  upper-terms-are = ap (λ (x : Session). step-terms (x .upper .terms)) (b .is) ∙ ap (side-terms true (encounter s)) index
+  upper-terms-are = ap (λ (x : Session). step-terms (x .upper .terms)) (b .is) ∙ ap (side-terms true (s .encounter)) index
 
-  tail-at : s .d ≡ d (encounter s) (suc (s .N - 1))
+  tail-at : s .d ≡ d (s .encounter) (suc (s .N - 1))
   unfolding state
-  tail-at = ap (λ (x : Session). x .d) (b .is) ∙ ap (d (encounter s)) order
+  tail-at = ap (λ (x : Session). x .d) (b .is) ∙ ap (d (s .encounter)) order
 
   pub start-holds : {l : LetterPairs} {m : Wide} {t : TermPairs} {x : Wide}
       → (letters-of false l ≡ step-letters (s .lower .letters)) × (letters-of true l ≡ step-letters (s .upper .letters)) → narrow m ≡ s .M
       → (terms-of false t ≡ step-terms (s .lower .terms)) × (terms-of true t ≡ step-terms (s .upper .terms)) → narrow x ≡ s .d
-      → Holds (encounter s) l m t x (s .N - 1)
+      → Holds (s .encounter) l m t x (s .N - 1)
   start-holds el em et ex = record {
     letters-are = by-side _ (el .0 ∙ ap step-letters (lower-letters-are s b)) (el .1 ∙ ap step-letters (upper-letters-are s b));
     bound-is = em ∙ M-is s b;
@@ -102,7 +104,7 @@ module _ (s : Session) (b : Begun s) where
   }
 
 -- the ranges
-module _ {s : Session} (b : Begun s) {l : LetterPairs} {m : Wide} {t : TermPairs} {x : Wide} {n : ℕ} (h : Holds (encounter s) l m t x n) where
+module _ {s : Session} (b : Begun s) {l : LetterPairs} {m : Wide} {t : TermPairs} {x : Wide} {n : ℕ} (h : Holds (s .encounter) l m t x n) where
   pub letters-held : (up : Bool) → Letters-in (letters-of up l)
   unfolding side-letters
   letters-held up = rw (h .letters-are up) (letters-in up (facts (b .fine) .bounds))
@@ -110,10 +112,10 @@ module _ {s : Session} (b : Begun s) {l : LetterPairs} {m : Wide} {t : TermPairs
   pub bound-held : InRange 32 400 (narrow m)
   bound-held = rw (h .bound-is) (M-range s b)
 
-  pub terms-held : n < 4096 → (up : Bool) → Terms-in (2 ^ 22) (terms-of up t)
+  pub terms-held : n < largest-order → (up : Bool) → Terms-in (2 ^ 22) (terms-of up t)
   terms-held nl up = rw (h .terms-are up) (terms-fine s b n (omega arith) up)
 
-  pub tail-held : n < 4096 → InRange 32 (2 ^ 22) (narrow x)
+  pub tail-held : n < largest-order → InRange 32 (2 ^ 22) (narrow x)
   tail-held nl = rw (h .tail-is) (d-range s b (suc n) (omega arith))
 
 module _ (E : Encounter) (n : ℕ) where
@@ -151,10 +153,10 @@ module _ (E : Encounter) (n : ℕ) where
 
 -- the session after an add, by its fields
 module _ (s : Session) (b : Begun s) where
-  at-index : (n : ℕ) (p : Progress) (lo hi : Side) → p ≡ progress (encounter s) n
+  at-index : (n : ℕ) (p : Progress) (lo hi : Side) → p ≡ progress (s .encounter) n
       → lo ≡ record { letters = s .lower .letters; exponential = s .lower .exponential; terms = p .lower }
       → hi ≡ record { letters = s .upper .letters; exponential = s .upper .exponential; terms = p .upper }
-      → record { R = s .R; sx = s .sx; sy = s .sy; xm = s .xm; ym = s .ym; N = suc n; lower = lo; upper = hi; r256 = s .r256; M = s .M; d = p .d } ≡ state (encounter s) (suc n)
+      → record { encounter = s .encounter; N = suc n; lower = lo; upper = hi; r256 = s .r256; M = s .M; d = p .d } ≡ state (s .encounter) (suc n)
   unfolding state side progress
   at-index n p lo hi e f g =
       let le = ap (λ (x : Session). x .lower .exponential) (b .is) in
@@ -162,9 +164,9 @@ module _ (s : Session) (b : Begun s) where
       let r = ap (λ (x : Session). x .r256) (b .is) in
       rw (f, g, e, lower-letters-are s b, upper-letters-are s b, le, he, r, M-is s b)
 
-  pub added-is : (N : ℕ) (p : Progress) (lo hi : Side) → 1 ≤ N → p ≡ progress (encounter s) (N - 1)
+  pub added-is : (N : ℕ) (p : Progress) (lo hi : Side) → 1 ≤ N → p ≡ progress (s .encounter) (N - 1)
       → lo ≡ record { letters = s .lower .letters; exponential = s .lower .exponential; terms = p .lower }
       → hi ≡ record { letters = s .upper .letters; exponential = s .upper .exponential; terms = p .upper }
-      → record { R = s .R; sx = s .sx; sy = s .sy; xm = s .xm; ym = s .ym; N = N; lower = lo; upper = hi; r256 = s .r256; M = s .M; d = p .d } ≡ state (encounter s) N
+      → record { encounter = s .encounter; N = N; lower = lo; upper = hi; r256 = s .r256; M = s .M; d = p .d } ≡ state (s .encounter) N
   added-is zero p lo hi l e f g = let f : ⊥ = omega arith in absurd f
   added-is (suc n) p lo hi l e f g = let k : suc n - 1 ≡ n = omega arith in at-index n p lo hi (rw k at e) f g

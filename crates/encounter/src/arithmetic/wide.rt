@@ -11,7 +11,7 @@ ghost use Rattle.exact.specs.Integer.{posPart, negPart};
 ghost use Rattle.exact.specs.Scaled.{value, half, Normal};
 ghost use Rattle.exact.specs.Private.Ranges.{InRange};
 ghost use Rattle.exact.specs.Private.Round.{round};
-ghost use Rattle.encounter.specs.Wide.{narrow, whole-part, Fitted, IsReciprocal};
+ghost use Rattle.encounter.specs.Private.Loops.{narrow, whole-part, Fitted, IsReciprocal};
 use exact::Scaled;
 
 // m × 2^e.

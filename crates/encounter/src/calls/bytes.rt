@@ -2,7 +2,7 @@
 ghost use mathlib.Core.Path.{_≡_};
 ghost use Prim.Native.Nat.{_+_, _≤_, _<_};
 ghost use lib.ListN.{length, getD};
-ghost use Rattle.encounter.specs.Calls.{u16-at, u32-at, signed};
+ghost use Rattle.exact.specs.Records.{u16-at, u32-at, signed};
 
 pub fn byte_at(script: &[u8], at: usize) -> u32
     requires { ⌜ at < length (now script) ⌝ }

@@ -4,30 +4,32 @@ ghost use mathlib.Core.Bool.{true};
 ghost use Prim.Native.Nat.{_-_, _*_, _≤_, _<_};
 ghost use lib.IntN.{natAbs};
 ghost use Rattle.exact.specs.Fraction.{_over_};
+ghost use Rattle.exact.specs.Numbers.{largest-length};
 ghost use Rattle.exact.specs.Scaled.{value};
 ghost use Rattle.exact.specs.Private.Ranges.{InRange, Bounds, Letters-in};
 ghost use Rattle.exact.specs.Private.Round.{round};
 ghost use Rattle.exact.specs.Steps.{add, bound as boundOf, side-letters, side-start};
-ghost use Rattle.encounter.specs.Session.{held-letters, step-letters};
+ghost use Rattle.encounter.specs.Private.Held.{held-letters, step-letters};
+use crate::arithmetic::exponent::gap;
 use crate::arithmetic::scaled::halved;
 use crate::arithmetic::scaled::product;
 use crate::arithmetic::scaled::ratio;
 use crate::arithmetic::scaled::sum;
-use crate::arithmetic::exponent::gap;
 use crate::state::Letters;
+use exact::Encounter;
 use exact::Scaled;
 
 // x × y of lengths in centimetres.
 fn times(x: u32, y: u32) -> u64
-    requires { ⌜ (x ≤ 10000000) × (y ≤ 10000000) ⌝ }
-    ensures { λ r. ⌜ (r ≡ x * y) × (r ≤ 100000000000000) ⌝ }
+    requires { ⌜ (x ≤ largest-length) × (y ≤ largest-length) ⌝ }
+    ensures { λ r. ⌜ (r ≡ x * y) × (r ≤ largest-length * largest-length) ⌝ }
 {
     (x as u64) * (y as u64)
 }
 
 // |z|, of a miss that passed test 6.
 fn magnitude(z: i32) -> u32
-    requires { ⌜ natAbs z ≤ 10000000 ⌝ }
+    requires { ⌜ natAbs z ≤ largest-length ⌝ }
     ensures { λ r. ⌜ r ≡ natAbs z ⌝ }
 {
     gap(z, 0) + gap(0, z)
@@ -35,7 +37,7 @@ fn magnitude(z: i32) -> u32
 
 // x² / (2y²).
 fn squares(up: bool, x: u32, y: u32) -> Scaled
-    requires { ⌜ (x ≤ 10000000) × (0 < y) × (y ≤ 10000000) ⌝ }
+    requires { ⌜ (x ≤ largest-length) × (0 < y) × (y ≤ largest-length) ⌝ }
     ensures { λ r. ⌜ r ≡ round up 32 ((x * x) over (2 * (y * y))) ⌝ }
 {
     ratio(up, times(x, x), 2 * times(y, y))
@@ -43,7 +45,7 @@ fn squares(up: bool, x: u32, y: u32) -> Scaled
 
 // g.
 fn excess(up: bool, sx: u32, sy: u32) -> Scaled
-    requires { ⌜ (sx ≤ 10000000) × (0 < sx) × (sy ≤ sx) ⌝ }
+    requires { ⌜ (sx ≤ largest-length) × (0 < sx) × (sy ≤ sx) ⌝ }
     ensures { λ r. ⌜ r ≡ round up 32 ((sx * sx - sy * sy) over (sx * sx)) ⌝ }
 {
     let xx = times(sx, sx);
@@ -52,11 +54,11 @@ fn excess(up: bool, sx: u32, sy: u32) -> Scaled
 }
 
 // c(0).
-pub fn start(up: bool, R: u32, sx: u32, sy: u32, xm: i32, ym: i32) -> Scaled
-    requires { ⌜ Bounds (encounter-of R sx sy xm ym) ⌝ }
-    ensures { λ r. ⌜ r ≡ side-start up (encounter-of R sx sy xm ym) ⌝ }
+pub fn start(up: bool, E: Encounter) -> Scaled
+    requires { ⌜ Bounds E ⌝ }
+    ensures { λ r. ⌜ r ≡ side-start up E ⌝ }
 {
-    ratio(up, times(R, R), 2 * times(sx, sy))
+    ratio(up, times(E.R, E.R), 2 * times(E.sx, E.sy))
 }
 
 // zx + zy + u.
@@ -67,14 +69,17 @@ fn three(up: bool, zx: Scaled, zy: Scaled, u: Scaled) -> Scaled
     sum(up, sum(up, zx, zy), u)
 }
 
-pub fn letters(up: bool, R: u32, sx: u32, sy: u32, xm: i32, ym: i32) -> Letters
-    requires { ⌜ Bounds (encounter-of R sx sy xm ym) ⌝ }
-    ensures { λ r. ⌜ r ≡ held-letters (side-letters up (encounter-of R sx sy xm ym)) ⌝ }
+pub fn letters(up: bool, E: Encounter) -> Letters
+    requires { ⌜ Bounds E ⌝ }
+    ensures { λ r. ⌜ r ≡ held-letters (side-letters up E) ⌝ }
 {
+    let R = E.R;
+    let sx = E.sx;
+    let sy = E.sy;
     let u = squares(up, R, sy);
     let b = squares(up, R, sx);
-    let zx = squares(up, magnitude(xm), sx);
-    let zy = squares(up, magnitude(ym), sy);
+    let zx = squares(up, magnitude(E.xm), sx);
+    let zy = squares(up, magnitude(E.ym), sy);
     let h = product(up, u, excess(up, sx, sy));
     let X = product(up, zx, b);
     let Y = product(up, zy, u);

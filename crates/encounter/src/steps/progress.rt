@@ -1,16 +1,17 @@
 // Both sides' terms and the upper d, taken on term by term.
 ghost use mathlib.Core.Path.{_≡_};
 ghost use Prim.Native.Nat.{_+_, _-_, _≤_};
-ghost use Rattle.encounter.specs.Session.{progress, encounter, Begun};
+ghost use Rattle.exact.specs.Numbers.{largest-order};
+ghost use Rattle.encounter.specs.Private.Held.{progress, Begun};
+use crate::arithmetic::wide::narrowed;
+use crate::arithmetic::wide::widen;
+use crate::state::Session;
+use crate::state::Terms;
 use crate::steps::sides::letter_pairs;
 use crate::steps::sides::side_terms;
 use crate::steps::sides::term_pairs;
-use crate::state::Session;
-use crate::state::Terms;
 use crate::steps::terms::next_tail;
 use crate::steps::terms::next_terms;
-use crate::arithmetic::wide::narrowed;
-use crate::arithmetic::wide::widen;
 use exact::Scaled;
 
 // What an add changes.
@@ -22,8 +23,8 @@ pub struct Progress {
 
 // `count` terms more.
 pub fn advance(s: Session, count: u32) -> Progress
-    requires { ⌜ (Begun s) × (s .N + count ≤ 4096) ⌝ }
-    ensures { λ r. ⌜ r ≡ progress (encounter s) (s .N + count - 1) ⌝ }
+    requires { ⌜ (Begun s) × (s .N + count ≤ largest-order) ⌝ }
+    ensures { λ r. ⌜ r ≡ progress (s .encounter) (s .N + count - 1) ⌝ }
 {
     let below = s.lower;
     let above = s.upper;

@@ -6,10 +6,8 @@ ghost use Rattle.exact.specs.Fraction.{_⊕_, _⊗_, _÷_};
 ghost use Rattle.exact.specs.Scaled.{value, half};
 ghost use Rattle.exact.specs.Private.Ranges.{InRange, Terms-in};
 ghost use Rattle.exact.specs.Private.Round.{round};
-ghost use Rattle.encounter.specs.Session.{step-letters, step-terms, held-terms};
-ghost use Rattle.encounter.specs.Wide.{side-of, letters-of, terms-of, IsReciprocal};
-use crate::state::Letters;
-use crate::state::Terms;
+ghost use Rattle.encounter.specs.Private.Held.{step-letters, step-terms, held-terms};
+ghost use Rattle.encounter.specs.Private.Loops.{side-of, letters-of, terms-of, IsReciprocal};
 use crate::arithmetic::wide::Reciprocal;
 use crate::arithmetic::wide::Wide;
 use crate::arithmetic::wide::halved;
@@ -19,6 +17,8 @@ use crate::arithmetic::wide::over_by;
 use crate::arithmetic::wide::product;
 use crate::arithmetic::wide::sum;
 use crate::arithmetic::wide::widen;
+use crate::state::Letters;
+use crate::state::Terms;
 use exact::Scaled;
 
 pub struct Pair {

@@ -2,13 +2,23 @@
 ghost use mathlib.Core.Path.{_≡_};
 ghost use mathlib.Core.Bool.{Bool, true};
 ghost use Prim.Native.Nat.{_+_, _*_, _^_, _≤_, _<_};
+ghost use Rattle.exact.specs.Numbers.{largest-order};
 ghost use Rattle.exact.specs.Scaled.{value};
 ghost use Rattle.exact.specs.Private.Ranges.{InRange, Letters-in, Terms-in};
 ghost use Rattle.exact.specs.Private.Round.{round};
 ghost use Rattle.exact.specs.Steps.{add, mul, div, first, next-c, next, next-d};
-ghost use Rattle.encounter.specs.Session.{step-letters, held-terms};
-ghost use Rattle.encounter.specs.Wide.{narrow, side-of, letters-of, terms-of, IsReciprocal};
+ghost use Rattle.encounter.specs.Private.Held.{step-letters, held-terms};
+ghost use Rattle.encounter.specs.Private.Loops.{narrow, side-of, letters-of, terms-of, IsReciprocal};
 use crate::arithmetic::scaled;
+use crate::arithmetic::wide::Reciprocal;
+use crate::arithmetic::wide::Wide;
+use crate::arithmetic::wide::narrowed;
+use crate::arithmetic::wide::over;
+use crate::arithmetic::wide::product;
+use crate::arithmetic::wide::reciprocal_of;
+use crate::arithmetic::wide::widen;
+use crate::state::Letters;
+use crate::state::Terms;
 use crate::steps::sides::LetterPairs;
 use crate::steps::sides::Pair;
 use crate::steps::sides::TermPairs;
@@ -17,13 +27,6 @@ use crate::steps::sides::overs;
 use crate::steps::sides::overs_by;
 use crate::steps::sides::products;
 use crate::steps::sides::sums;
-use crate::state::Letters;
-use crate::state::Terms;
-use crate::arithmetic::wide::Reciprocal;
-use crate::arithmetic::wide::Wide;
-use crate::arithmetic::wide::over;
-use crate::arithmetic::wide::product;
-use crate::arithmetic::wide::reciprocal_of;
 use exact::Scaled;
 
 // A side's terms of index 0.
@@ -44,7 +47,7 @@ pub fn first_terms(up: bool, l: Letters, start: Scaled) -> Terms
 
 // c(n + 1), where hv is h × v(n).
 fn next_term(l: LetterPairs, s: TermPairs, hv: Pair, n: u64) -> Pair
-    requires { ⌜ (n < 4096) × ((up : Bool) → Letters-in (letters-of up l)) × ((up : Bool) → Terms-in (2 ^ 22) (terms-of up s)) × ((up : Bool) → side-of up hv ≡ mul value (round up 32) (side-of up (l .h)) (side-of up (s .v))) ⌝ }
+    requires { ⌜ (n < largest-order) × ((up : Bool) → Letters-in (letters-of up l)) × ((up : Bool) → Terms-in (2 ^ 22) (terms-of up s)) × ((up : Bool) → side-of up hv ≡ mul value (round up 32) (side-of up (l .h)) (side-of up (s .v))) ⌝ }
     ensures { λ r. ⌜ ((up : Bool) → side-of up r ≡ next-c value (round up 32) (letters-of up l) n (terms-of up s)) ⌝ }
 {
     let p = s.p;
@@ -76,7 +79,7 @@ fn next_weighted(x: Pair, hx: Pair, by: Reciprocal) -> Pair
 
 // The terms of index n + 1 from those of index n.
 pub fn next_terms(l: LetterPairs, s: TermPairs, n: u64) -> TermPairs
-    requires { ⌜ (n < 4096) × ((up : Bool) → Letters-in (letters-of up l)) × ((up : Bool) → Terms-in (2 ^ 22) (terms-of up s)) ⌝ }
+    requires { ⌜ (n < largest-order) × ((up : Bool) → Letters-in (letters-of up l)) × ((up : Bool) → Terms-in (2 ^ 22) (terms-of up s)) ⌝ }
     ensures { λ r. ⌜ ((up : Bool) → terms-of up r ≡ next value (round up 32) (letters-of up l) n (terms-of up s)) ⌝ }
 {
     let u = l.u;
@@ -94,8 +97,16 @@ pub fn next_terms(l: LetterPairs, s: TermPairs, n: u64) -> TermPairs
 
 // d(n + 1) from d(n).
 pub fn next_tail(M: Wide, d: Wide, n: u64) -> Wide
-    requires { ⌜ (n ≤ 4096) × (InRange 32 400 (narrow M)) × (InRange 32 (2 ^ 22) (narrow d)) ⌝ }
+    requires { ⌜ (n ≤ largest-order) × (InRange 32 400 (narrow M)) × (InRange 32 (2 ^ 22) (narrow d)) ⌝ }
     ensures { λ r. ⌜ narrow r ≡ next-d value (round true 32) (narrow M) n (narrow d) ⌝ }
 {
     over(true, product(true, d, M), n + 2)
+}
+
+// d(1) from d(0), which is c(0).
+pub fn first_tail(M: Scaled, c: Scaled) -> Scaled
+    requires { ⌜ (InRange 32 400 M) × (InRange 32 177 c) ⌝ }
+    ensures { λ r. ⌜ r ≡ next-d value (round true 32) M 0 c ⌝ }
+{
+    narrowed(next_tail(widen(M), widen(c), 0))
 }

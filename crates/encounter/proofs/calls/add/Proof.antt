@@ -1,7 +1,8 @@
 use native.Mathlib.Omega.{arith}
 use Rattle.encounter.proofs.calls.Invariant.{begun, order-high}
 use Rattle.encounter.proofs.steps.Progressing.{added-is}
-use Rattle.encounter.proofs.calls.Answering.{add-21, add-22, add-taken, add-reached}
+use Rattle.encounter.proofs.calls.Answering.{add-21, add-22, add-taken, call-reached}
+use Rattle.encounter.specs.Calls.{adds}
 use borrow.Author.Needs.{needs}
 use Rattle.encounter.proofs.calls.add.Statement.{statement}
 use Rattle.encounter.proofs.calls.add.Tie as tie
@@ -42,7 +43,7 @@ returns-3 c =
     let b = begun (z .args .s) (z .pre) some in
     let n = added-is (z .args .s) b _ (c .before .before .before .before .advance .result) _ _ (omega (arith, b .low)) (c .before .before .before .before .advance .ensures) (c .before .before .before .later-side .ensures) (c .before .before .later-side2 .ensures) in
     let e = add-taken (z .args .s) (z .args .count) some (c .before .before .before .before .before .if2 .left) (c .count-to .ensures) n in
-    (e, add-reached (z .args .count) (z .pre) e)
+    (e, call-reached (adds (z .args .count)) (z .pre) e)
 
 pub add-spec : {M : Type 1} → statement M
 add-spec =

@@ -1,16 +1,21 @@
-use mathlib.Core.Path.{sym, _∙_}
-use Rattle.encounter.proofs.calls.Invariant.{begun, demand-3}
-use Rattle.encounter.proofs.calls.Reading.{lower-end-fine}
+use mathlib.Core.Path.{_≡_, sym, _∙_, ap}
+use mathlib.Core.Bool.{Bool, not}
+use Rattle.encounter.proofs.calls.Invariant.{begun, demands}
+use Rattle.encounter.proofs.calls.Reading.{not-not, lower-end-fine}
 use Rattle.encounter.proofs.calls.Answering.{read-21, read-23, read-taken, bracket-is}
 use borrow.Author.Needs.{needs}
 use Rattle.encounter.proofs.calls.read.Statement.{statement}
 use Rattle.encounter.proofs.calls.read.Tie as tie
 
+-- the code tests that 23 does not refuse
+flipped : {b r x : Bool} → r ≡ not b → r ≡ x → b ≡ not x
+flipped {b = b} e f = not-not b ∙ ap not (sym e ∙ f)
+
 refuse-requires : tie.Need-refuse-requires
 refuse-requires c κs = search needs
 
 returns : tie.Need-returns
-returns c = let z = c .before .before .before in (read-21 (z .args .s) (c .before .if1 .taken) (c .refuse .ensures), demand-3)
+returns c = let z = c .before .before .before in (read-21 (z .args .s) (c .before .if1 .taken) (c .refuse .ensures), demands)
 
 may-read-requires : tie.Need-may-read-requires
 may-read-requires c κs = let z = c .before .before in begun (z .args .s) (z .pre) (c .if1 .left)
@@ -33,14 +38,14 @@ returns-2 : tie.Need-returns-2
 returns-2 c =
     let z = c .before .before .before .before .before .before .before in
     let some = c .before .before .before .before .before .if1 .left in (
-      read-taken (z .args .s) some (sym (c .before .before .before .before .may-read .ensures) ∙ c .before .before .before .if2 .taken) (bracket-is (z .args .s) some (c .before .before .lower-end .ensures) (c .before .upper-end .ensures) (c .classify .ensures)),
-      demand-3,
+      read-taken (z .args .s) some (flipped (c .before .before .before .before .may-read .ensures) (c .before .before .before .if2 .taken)) (bracket-is (z .args .s) (c .before .before .lower-end .ensures) (c .before .upper-end .ensures) (c .classify .ensures)),
+      demands,
     )
 
 returns-3 : tie.Need-returns-3
 returns-3 c =
     let z = c .before .before .before .before .before in
-    (read-23 (z .args .s) (c .before .before .before .if1 .left) (sym (c .before .before .may-read .ensures) ∙ c .before .if2 .left) (c .refuse2 .ensures), demand-3)
+    (read-23 (z .args .s) (c .before .before .before .if1 .left) (flipped (c .before .before .may-read .ensures) (c .before .if2 .left)) (c .refuse2 .ensures), demands)
 
 pub read-spec : {M : Type 1} → statement M
 read-spec =

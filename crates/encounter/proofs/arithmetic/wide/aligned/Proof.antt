@@ -5,7 +5,7 @@ use lib.Dec.{lit<}
 use mir.Facts.{toZ-ofZ}
 use Rattle.exact.proofs.Ranges.{in-fits-64}
 use Rattle.exact.proofs.Operations.{sum-packs}
-use Rattle.encounter.specs.Wide.{narrow}
+use Rattle.encounter.specs.Private.Loops.{narrow}
 use Rattle.encounter.proofs.arithmetic.WholeParts.{whole-under, whole-more}
 use borrow.Author.Needs.{needs}
 use Rattle.encounter.proofs.arithmetic.wide.aligned.Statement.{statement}

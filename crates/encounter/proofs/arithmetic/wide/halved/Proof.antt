@@ -1,6 +1,6 @@
 use mathlib.Core.Path.{sym, _∙_}
 use Rattle.exact.proofs.Order.{exponent-none, exponent-some}
-use Rattle.encounter.specs.Wide.{narrow}
+use Rattle.encounter.specs.Private.Loops.{narrow}
 use native.Mathlib.Omega.{arith}
 use mir.Syntax.{w64}
 use mir.Facts.{toZ-ofZ}

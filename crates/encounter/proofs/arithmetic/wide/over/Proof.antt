@@ -16,7 +16,7 @@ use Rattle.exact.proofs.Signed.{back-in}
 use Rattle.exact.proofs.Packing.{scaled-high}
 use Rattle.exact.proofs.Operations.{normal, none, wide, over-packs, over-none}
 use Rattle.exact.proofs.Ranges.{in-fits-64}
-use Rattle.encounter.specs.Wide.{narrow}
+use Rattle.encounter.specs.Private.Loops.{narrow}
 use Rattle.encounter.proofs.arithmetic.WholeParts.{raised-quotient, more-le}
 use borrow.Author.Needs.{needs}
 use Rattle.encounter.proofs.arithmetic.wide.over.Statement.{statement}

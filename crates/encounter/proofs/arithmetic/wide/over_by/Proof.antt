@@ -12,7 +12,7 @@ use Rattle.exact.proofs.Signed.{back-in}
 use Rattle.exact.proofs.Packing.{scaled-high}
 use Rattle.exact.proofs.Operations.{normal, none, wide, over-packs, over-none}
 use Rattle.exact.proofs.Ranges.{in-fits-64}
-use Rattle.encounter.specs.Wide.{narrow}
+use Rattle.encounter.specs.Private.Loops.{narrow}
 use Rattle.encounter.proofs.arithmetic.WholeParts.{more-le}
 use Rattle.encounter.proofs.arithmetic.Reciprocals.{few, formed, h-le, low-product, quotient-is}
 use Rattle.encounter.proofs.arithmetic.wide.over_by.Statement.{statement}

@@ -11,7 +11,7 @@ use Rattle.exact.proofs.Signed.{back-in, sum-fits-in}
 use Rattle.exact.proofs.Packing.{scaled-high}
 use Rattle.exact.proofs.Operations.{normal, product-high-packs, product-none}
 use Rattle.exact.proofs.Ranges.{in-fits-64, below-square}
-use Rattle.encounter.specs.Wide.{narrow}
+use Rattle.encounter.specs.Private.Loops.{narrow}
 use Rattle.encounter.proofs.arithmetic.WholeParts.{raised-quotient, more-le}
 use Rattle.encounter.proofs.arithmetic.wide.product.Statement.{statement}
 use Rattle.encounter.proofs.arithmetic.wide.product.Tie as tie

@@ -7,7 +7,7 @@ use Rattle.exact.proofs.Integers.{gap, gap-above}
 use Rattle.exact.proofs.Signed.{diff-fits-in}
 use Rattle.exact.proofs.Operations.{normal, sum-none, sum-comm}
 use Rattle.exact.proofs.Ranges.{in-fits-64}
-use Rattle.encounter.specs.Wide.{narrow}
+use Rattle.encounter.specs.Private.Loops.{narrow}
 use borrow.Author.Needs.{needs}
 use Rattle.encounter.proofs.arithmetic.wide.sum.Statement.{statement}
 use Rattle.encounter.proofs.arithmetic.wide.sum.Tie as tie

@@ -5,7 +5,7 @@ use native.Mathlib.Omega.{arith}
 use Rattle.exact.specs.Scaled.{one, value}
 use Rattle.exact.specs.Private.Round.{round}
 use Rattle.exact.specs.Steps.{powers}
-use Rattle.encounter.specs.Wide.{side-of, powers-of}
+use Rattle.encounter.specs.Private.Loops.{side-of, powers-of}
 use Rattle.encounter.proofs.steps.Pairs.{by-side}
 use Rattle.encounter.proofs.steps.Opening.{powers-fine, powers-next}
 use borrow.Author.Needs.{needs}

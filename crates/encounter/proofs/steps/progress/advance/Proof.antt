@@ -3,9 +3,10 @@ use mathlib.Core.Bool.{true, false}
 use Prim.Native.Nat.{_+_, _-_, _≤_, _<_}
 use native.Mathlib.Omega.{arith}
 use lib.Dec.{lit≤}
+use Rattle.exact.specs.Numbers.{largest-order}
 use Rattle.exact.specs.declared.Encounter.{Encounter}
 use Rattle.exact.proofs.Ranges.{widen}
-use Rattle.encounter.specs.Session.{progress, encounter}
+use Rattle.encounter.specs.Private.Held.{progress}
 use Rattle.encounter.proofs.steps.Progressing.{Holds, start-holds, letters-held, bound-held, terms-held, tail-held, next-holds, holds-progress}
 use borrow.Author.Needs.{needs}
 use Rattle.encounter.proofs.steps.progress.advance.Statement.{statement}
@@ -52,8 +53,8 @@ next-terms-requires : tie.Need-next-terms-requires Inv-loop μ-loop
 next-terms-requires c κs =
     let z = c .before .before .before .before .before .before .before .before .before .before in
     let l = c .before .loop in
-    let h = l .inv .2 (encounter (z .args .s)) (start-holds (z .args .s) (z .pre .0) (c .before .before .before .before .before .before .before .letter-pairs .ensures) (c .before .before .before .before .before .before .widen .ensures) (c .before .before .before .before .before .term-pairs .ensures) (c .before .before .before .before .widen2 .ensures)) in
-    let n : l .n < 4096 = omega (arith, l .inv .1, c .loop-test .taken) in
+    let h = l .inv .2 (z .args .s .encounter) (start-holds (z .args .s) (z .pre .0) (c .before .before .before .before .before .before .before .letter-pairs .ensures) (c .before .before .before .before .before .before .widen .ensures) (c .before .before .before .before .before .term-pairs .ensures) (c .before .before .before .before .widen2 .ensures)) in
+    let n : l .n < largest-order = omega (arith, l .inv .1, c .loop-test .taken) in
     (n, letters-held (z .pre .0) h, terms-held (z .pre .0) h n)
 
 add-next-tail : tie.Need-add-next-tail Inv-loop μ-loop
@@ -63,8 +64,8 @@ next-tail-requires : tie.Need-next-tail-requires Inv-loop μ-loop
 next-tail-requires c κs =
     let z = c .before .before .before .before .before .before .before .before .before .before .before in
     let l = c .before .before .loop in
-    let h = l .inv .2 (encounter (z .args .s)) (start-holds (z .args .s) (z .pre .0) (c .before .before .before .before .before .before .before .before .letter-pairs .ensures) (c .before .before .before .before .before .before .before .widen .ensures) (c .before .before .before .before .before .before .term-pairs .ensures) (c .before .before .before .before .before .widen2 .ensures)) in
-    let n : l .n < 4096 = omega (arith, l .inv .1, c .before .loop-test .taken) in
+    let h = l .inv .2 (z .args .s .encounter) (start-holds (z .args .s) (z .pre .0) (c .before .before .before .before .before .before .before .before .letter-pairs .ensures) (c .before .before .before .before .before .before .before .widen .ensures) (c .before .before .before .before .before .before .term-pairs .ensures) (c .before .before .before .before .before .widen2 .ensures)) in
+    let n : l .n < largest-order = omega (arith, l .inv .1, c .before .loop-test .taken) in
     (omega (arith, n), bound-held (z .pre .0) h, tail-held (z .pre .0) h n)
 
 add-n : tie.Need-add-n Inv-loop μ-loop
@@ -82,30 +83,30 @@ side-terms-requires : tie.Need-side-terms-requires Inv-loop μ-loop
 side-terms-requires c κs =
     let z = c .before .before .before .before .before .before .before .before .before .before in
     let l = c .before .loop in
-    let h = l .inv .2 (encounter (z .args .s)) (start-holds (z .args .s) (z .pre .0) (c .before .before .before .before .before .before .before .letter-pairs .ensures) (c .before .before .before .before .before .before .widen .ensures) (c .before .before .before .before .before .term-pairs .ensures) (c .before .before .before .before .widen2 .ensures)) in
+    let h = l .inv .2 (z .args .s .encounter) (start-holds (z .args .s) (z .pre .0) (c .before .before .before .before .before .before .before .letter-pairs .ensures) (c .before .before .before .before .before .before .widen .ensures) (c .before .before .before .before .before .term-pairs .ensures) (c .before .before .before .before .widen2 .ensures)) in
     terms-held (z .pre .0) h (omega (arith, l .inv .0, l .inv .1)) false
 
 side-terms-requires-2 : tie.Need-side-terms-requires-2 Inv-loop μ-loop
 side-terms-requires-2 c κs =
     let z = c .before .before .before .before .before .before .before .before .before .before .before in
     let l = c .before .before .loop in
-    let h = l .inv .2 (encounter (z .args .s)) (start-holds (z .args .s) (z .pre .0) (c .before .before .before .before .before .before .before .before .letter-pairs .ensures) (c .before .before .before .before .before .before .before .widen .ensures) (c .before .before .before .before .before .before .term-pairs .ensures) (c .before .before .before .before .before .widen2 .ensures)) in
+    let h = l .inv .2 (z .args .s .encounter) (start-holds (z .args .s) (z .pre .0) (c .before .before .before .before .before .before .before .before .letter-pairs .ensures) (c .before .before .before .before .before .before .before .widen .ensures) (c .before .before .before .before .before .before .term-pairs .ensures) (c .before .before .before .before .before .widen2 .ensures)) in
     terms-held (z .pre .0) h (omega (arith, l .inv .0, l .inv .1)) true
 
 narrowed-requires : tie.Need-narrowed-requires Inv-loop μ-loop
 narrowed-requires c κs =
     let z = c .before .before .before .before .before .before .before .before .before .before .before .before in
     let l = c .before .before .before .loop in
-    let h = l .inv .2 (encounter (z .args .s)) (start-holds (z .args .s) (z .pre .0) (c .before .before .before .before .before .before .before .before .before .letter-pairs .ensures) (c .before .before .before .before .before .before .before .before .widen .ensures) (c .before .before .before .before .before .before .before .term-pairs .ensures) (c .before .before .before .before .before .before .widen2 .ensures)) in
+    let h = l .inv .2 (z .args .s .encounter) (start-holds (z .args .s) (z .pre .0) (c .before .before .before .before .before .before .before .before .before .letter-pairs .ensures) (c .before .before .before .before .before .before .before .before .widen .ensures) (c .before .before .before .before .before .before .before .term-pairs .ensures) (c .before .before .before .before .before .before .widen2 .ensures)) in
     widen (lit≤ tt) (tail-held (z .pre .0) h (omega (arith, l .inv .0, l .inv .1)))
 
 returns : tie.Need-returns Inv-loop μ-loop
 returns c =
     let z = c .before .before .before .before .before .before .before .before .before .before .before .before .before in
     let l = c .before .before .before .before .loop in
-    let h = l .inv .2 (encounter (z .args .s)) (start-holds (z .args .s) (z .pre .0) (c .before .before .before .before .before .before .before .before .before .before .letter-pairs .ensures) (c .before .before .before .before .before .before .before .before .before .widen .ensures) (c .before .before .before .before .before .before .before .before .term-pairs .ensures) (c .before .before .before .before .before .before .before .widen2 .ensures)) in
+    let h = l .inv .2 (z .args .s .encounter) (start-holds (z .args .s) (z .pre .0) (c .before .before .before .before .before .before .before .before .before .before .letter-pairs .ensures) (c .before .before .before .before .before .before .before .before .before .widen .ensures) (c .before .before .before .before .before .before .before .before .term-pairs .ensures) (c .before .before .before .before .before .before .before .widen2 .ensures)) in
     let e : l .n ≡ z .args .s .N + z .args .count - 1 = omega (arith, l .inv .0, c .before .before .before .loop-test .left) in
-    holds-progress (encounter (z .args .s)) (l .n) h (c .before .before .side-terms .ensures) (c .before .side-terms2 .ensures) (c .narrowed .ensures) ∙ ap (progress (encounter (z .args .s))) e
+    holds-progress (z .args .s .encounter) (l .n) h (c .before .before .side-terms .ensures) (c .before .side-terms2 .ensures) (c .narrowed .ensures) ∙ ap (progress (z .args .s .encounter)) e
 
 pub advance-spec : {M : Type 1} → statement M
 advance-spec =

@@ -13,7 +13,7 @@ use Rattle.exact.specs.Steps.{add, mul, div, next-c}
 use Rattle.exact.proofs.Order.{sum-half}
 use Rattle.exact.proofs.Ranges.{widen}
 use Rattle.exact.proofs.Exponents.{mul-in}
-use Rattle.encounter.specs.Wide.{side-of}
+use Rattle.encounter.specs.Private.Loops.{side-of}
 use Rattle.encounter.proofs.arithmetic.Fitting.{product-of, sum-of, half-of}
 use Rattle.encounter.proofs.steps.terms.next_term.Statement.{statement}
 use Rattle.encounter.proofs.steps.terms.next_term.Tie as tie

@@ -11,7 +11,7 @@ use Rattle.exact.specs.Private.Round.{round}
 use Rattle.exact.specs.Steps.{add, mul, div, next-p, next-v, next-y, next}
 use Rattle.exact.proofs.Ranges.{widen}
 use Rattle.exact.proofs.Exponents.{add-in, div-in, c-in}
-use Rattle.encounter.specs.Wide.{side-of}
+use Rattle.encounter.specs.Private.Loops.{side-of}
 use Rattle.encounter.proofs.arithmetic.Fitting.{product-of}
 use borrow.Author.Needs.{needs}
 use Rattle.encounter.proofs.steps.terms.next_terms.Statement.{statement}

@@ -8,18 +8,21 @@ use lib.IntN.{negsuc}
 use lib.Ieee.{size, span, climb}
 use Rattle.exact.specs.declared.Scaled.{Scaled}
 use Rattle.exact.specs.Fraction.{Frac, whole, _over_, _⊗_, at-most}
+use Rattle.exact.specs.Numbers.{alert-odds}
+use Rattle.exact.specs.Steps.{alert}
+use Rattle.encounter.specs.Session.{class-of}
 use Rattle.exact.specs.Scaled.{scaled, value, IsScaled}
 use Rattle.exact.specs.Private.Ranges.{InRange}
 use Rattle.exact.specs.Private.Round.{round, pack, finish, spare, inexact}
 use Rattle.exact.proofs.Order.{at-least-up}
-use Rattle.encounter.proofs.calls.classify.Statement.{statement}
-use Rattle.encounter.proofs.calls.classify.Tie as tie
+use Rattle.encounter.proofs.calls.ends.classify.Statement.{statement}
+use Rattle.encounter.proofs.calls.ends.classify.Tie as tie
 
 abbrev threshold : Scaled
 threshold = scaled 3518437209 (negsuc 44)
 
 -- the constant is U(1/10,000)
-threshold-is : round true 32 (1 over 10000) ≡ threshold
+threshold-is : round true 32 (1 over alert-odds) ≡ threshold
 unfolding round pack finish spare inexact _over_ size span climb
 threshold-is = refl
 
@@ -27,20 +30,23 @@ threshold-in : InRange 32 (2 ^ 28) threshold
 threshold-in = record { is-scaled = inr (record { low = lit≤ tt; high = lit< tt }); above = lit≤ tt; below = lit≤ tt }
 
 -- at least 1/10,000 is 10,000 times at least 1
-scale : (x : Frac) → at-most (1 over 10000) x ≡ at-most (whole 1) (x ⊗ whole 10000)
+scale : (x : Frac) → at-most (1 over alert-odds) x ≡ at-most (whole 1) (x ⊗ whole alert-odds)
 unfolding at-most _over_ _⊗_ whole
-scale x = rw (mul-one (x .den), mul-one (x .num * 10000))
+scale x = rw (mul-one (x .den), mul-one (x .num * alert-odds))
 
-test-is : {x : Scaled} {r : Bool} → IsScaled 32 x → r ≡ at-most (value threshold) (value x) → r ≡ at-most (whole 1) (value x ⊗ whole 10000)
-test-is {x} n e = e ∙ rw (← threshold-is) (at-least-up 32 (1 over 10000) (lit< tt) n) ∙ scale (value x)
+test-is : {x : Scaled} {r : Bool} → IsScaled 32 x → r ≡ at-most (value threshold) (value x) → r ≡ alert x
+unfolding alert
+test-is {x} n e = e ∙ rw (← threshold-is) (at-least-up 32 (1 over alert-odds) (lit< tt) n) ∙ scale (value x)
 
 at-most-requires : tie.Need-at-most-requires
 at-most-requires c κs = (threshold-in, c .pre)
 
 returns : tie.Need-returns
+unfolding class-of
 returns c = rw (← test-is (c .before .before .pre .is-scaled) (c .before .at-most .ensures), c .if1 .taken)
 
 returns-2 : tie.Need-returns-2
+unfolding class-of
 returns-2 c = rw (← test-is (c .before .before .pre .is-scaled) (c .before .at-most .ensures), c .if1 .left)
 
 pub classify-spec : {M : Type 1} → statement M

@@ -3,8 +3,8 @@ use mathlib.Core.Bool.{true}
 use Rattle.exact.proofs.Ranges.{widen}
 use Rattle.encounter.proofs.arithmetic.Fitting.{sum-of, double-of}
 use Rattle.encounter.proofs.calls.Reading.{d-fine, lower-exponential-fine, upper-sum-fine, lower-exponential-normal, upper-end-is}
-use Rattle.encounter.proofs.calls.upper_end.Statement.{statement}
-use Rattle.encounter.proofs.calls.upper_end.Tie as tie
+use Rattle.encounter.proofs.calls.ends.upper_end.Statement.{statement}
+use Rattle.encounter.proofs.calls.ends.upper_end.Tie as tie
 
 doubled-requires : tie.Need-doubled-requires
 doubled-requires c κs = let z = c .before .before .before .before in widen (lit≤ tt) (d-fine (z .args .s) (z .pre))

@@ -2,9 +2,9 @@ use lib.Dec.{lit≤}
 use mathlib.Core.Bool.{true}
 use Rattle.exact.proofs.Ranges.{widen}
 use Rattle.encounter.proofs.arithmetic.Fitting.{sum-of, double-of}
-use Rattle.encounter.proofs.calls.Reading.{r256-fine, exponential-with-tail-fine, lower-sum-fine, exponential-with-tail-normal, lower-end-is}
-use Rattle.encounter.proofs.calls.lower_end.Statement.{statement}
-use Rattle.encounter.proofs.calls.lower_end.Tie as tie
+use Rattle.encounter.proofs.calls.Reading.{r256-fine, upper-exponential-fine, lower-sum-fine, divisor-normal, lower-end-is}
+use Rattle.encounter.proofs.calls.ends.lower_end.Statement.{statement}
+use Rattle.encounter.proofs.calls.ends.lower_end.Tie as tie
 
 doubled-requires : tie.Need-doubled-requires
 doubled-requires c κs = let z = c .before .before .before .before in widen (lit≤ tt) (r256-fine (z .args .s) (z .pre))
@@ -12,15 +12,15 @@ doubled-requires c κs = let z = c .before .before .before .before in widen (lit
 sum-requires : tie.Need-sum-requires
 sum-requires c κs =
     let z = c .before .before .before .before .before in
-    (widen (lit≤ tt) (exponential-with-tail-fine (z .args .s) (z .pre)), widen (lit≤ tt) (double-of (c .doubled .ensures) (r256-fine (z .args .s) (z .pre))))
+    (widen (lit≤ tt) (upper-exponential-fine (z .args .s) (z .pre)), widen (lit≤ tt) (double-of (c .doubled .ensures) (r256-fine (z .args .s) (z .pre))))
 
 quotient-requires : tie.Need-quotient-requires
 quotient-requires c κs =
     let z = c .before .before .before .before .before .before in
     let y = double-of (c .before .doubled .ensures) (r256-fine (z .args .s) (z .pre)) in (
       widen (lit≤ tt) (lower-sum-fine (z .args .s) (z .pre)),
-      widen (lit≤ tt) (sum-of true (c .sum .ensures) (widen (lit≤ tt) (exponential-with-tail-fine (z .args .s) (z .pre))) y),
-      exponential-with-tail-normal (z .args .s) (z .pre) (c .before .doubled .result) (c .sum .ensures),
+      widen (lit≤ tt) (sum-of true (c .sum .ensures) (widen (lit≤ tt) (upper-exponential-fine (z .args .s) (z .pre))) y),
+      divisor-normal (z .args .s) (z .pre) (c .before .doubled .result) (c .sum .ensures),
     )
 
 returns : tie.Need-returns

@@ -1,7 +1,7 @@
 use mir.Facts.{toZ-ofZ}
 use Rattle.encounter.proofs.calls.Answering.{far-below, far-above}
-use Rattle.encounter.proofs.calls.far.Statement.{statement}
-use Rattle.encounter.proofs.calls.far.Tie as tie
+use Rattle.encounter.proofs.calls.tests.far.Statement.{statement}
+use Rattle.encounter.proofs.calls.tests.far.Tie as tie
 
 returns : tie.Need-returns
 returns c = far-below (c .before .args .z) (rw (toZ-ofZ (c .before .fits .z)) at (c .if1 .taken))

@@ -1,6 +1,6 @@
 use Rattle.encounter.proofs.calls.Answering.{outside-zero, outside-some}
-use Rattle.encounter.proofs.calls.outside.Statement.{statement}
-use Rattle.encounter.proofs.calls.outside.Tie as tie
+use Rattle.encounter.proofs.calls.tests.outside.Statement.{statement}
+use Rattle.encounter.proofs.calls.tests.outside.Tie as tie
 
 returns : tie.Need-returns
 returns c = outside-zero (c .before .args .n) (c .if1 .taken)

@@ -6,8 +6,8 @@ use Rattle.encounter.proofs.arithmetic.Fitting.{double-of, whole-of}
 use Rattle.encounter.proofs.steps.Progressing.{M-fine}
 use Rattle.encounter.proofs.calls.Reading.{may-read-is}
 use borrow.Author.Needs.{needs}
-use Rattle.encounter.proofs.calls.may_read.Statement.{statement}
-use Rattle.encounter.proofs.calls.may_read.Tie as tie
+use Rattle.encounter.proofs.calls.ends.may_read.Statement.{statement}
+use Rattle.encounter.proofs.calls.ends.may_read.Tie as tie
 
 doubled-requires : tie.Need-doubled-requires
 doubled-requires c κs = let z = c .before in widen (lit≤ tt) (M-fine (z .args .s) (z .pre))

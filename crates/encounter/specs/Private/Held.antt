@@ -1,0 +1,37 @@
+-- The session's structs and the steps' records into each other, what an add changes, and what the premise of a call comes to. Private functions ask for these.
+use mathlib.Core.Path.{_≡_}
+use mathlib.Core.Bool.{true, false}
+use Prim.Native.Nat.{ℕ, suc, _≤_}
+use Rattle.exact.specs.declared.Encounter.{Encounter}
+use Rattle.exact.specs.declared.Scaled.{Scaled}
+use Rattle.exact.specs.Numbers.{largest-order}
+use Rattle.exact.specs.Steps.{LettersOf, TermsOf, side-terms, d}
+use Rattle.exact.specs.Refusals.{Accepted}
+use Rattle.encounter.specs.declared.state.Letters.{Letters}
+use Rattle.encounter.specs.declared.state.Terms.{Terms}
+use Rattle.encounter.specs.declared.state.Session.{Session}
+use Rattle.encounter.specs.declared.steps.progress.Progress.{Progress}
+use Rattle.encounter.specs.Session.{state}
+
+abbrev pub held-letters : LettersOf Scaled → Letters
+held-letters l = record { u = l .u; h = l .h; X = l .X; Y = l .Y; t = l .t }
+
+abbrev pub step-letters : Letters → LettersOf Scaled
+step-letters l = record { u = l .u; h = l .h; X = l .X; Y = l .Y; t = l .t }
+
+abbrev pub held-terms : TermsOf Scaled → Terms
+held-terms s = record { c = s .c; p = s .p; v = s .v; y = s .y; sum = s .sum }
+
+abbrev pub step-terms : Terms → TermsOf Scaled
+step-terms s = record { c = s .c; p = s .p; v = s .v; y = s .y; sum = s .sum }
+
+-- what an add changes, at order n + 1
+unfoldable pub progress : Encounter → ℕ → Progress
+progress E n = record { lower = held-terms (side-terms false E n); upper = held-terms (side-terms true E n); d = d E (suc n) }
+
+-- a session with an encounter (proofs/calls/Invariant.antt)
+pub record Begun (s : Session) : Type 0 where
+  pub fine : Accepted (s .encounter)
+  pub low : 1 ≤ s .N
+  pub high : s .N ≤ largest-order
+  pub is : s ≡ state (s .encounter) (s .N)

@@ -1,0 +1,57 @@
+// Tests 3 to 6, on the inputs of a begin.
+ghost use mathlib.Core.Path.{_≡_};
+ghost use Rattle.exact.specs.Private.Ranges.{tests-3-to-6};
+ghost use Rattle.exact.specs.Refusals.{outside as is-outside, miss-outside as is-far};
+use exact::Encounter;
+use exact::LARGEST_LENGTH;
+
+// 0 or above 10,000,000.
+fn outside(n: u32) -> bool
+    ensures { λ r. ⌜ r ≡ is-outside n ⌝ }
+{
+    if n == 0 {
+        return true;
+    }
+    LARGEST_LENGTH < n
+}
+
+const LARGEST_MISS: i32 = LARGEST_LENGTH as i32;
+
+const LEAST_MISS: i32 = -LARGEST_MISS;
+
+// Outside -10,000,000 to 10,000,000.
+fn far(z: i32) -> bool
+    ensures { λ r. ⌜ r ≡ is-far z ⌝ }
+{
+    if z < LEAST_MISS {
+        return true;
+    }
+    LARGEST_MISS < z
+}
+
+// Tests 3 to 6: the number of the first that refuses, or 0.
+pub fn test_inputs(E: Encounter) -> u32
+    ensures { λ r. ⌜ r ≡ tests-3-to-6 E 0 ⌝ }
+{
+    let sx = E.sx;
+    let sy = E.sy;
+    if outside(E.R) {
+        return 3;
+    }
+    if outside(sx) {
+        return 4;
+    }
+    if outside(sy) {
+        return 4;
+    }
+    if sx < sy {
+        return 5;
+    }
+    if far(E.xm) {
+        return 6;
+    }
+    if far(E.ym) {
+        return 6;
+    }
+    0
+}
