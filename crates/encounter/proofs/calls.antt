@@ -3,6 +3,6 @@ pub mod Answering
 pub mod Requests
 pub mod Stars
 pub mod Invariant
-pub mod LendOne
+pub mod Lending
 pub mod Rows
 pub mod Claiming

@@ -1,3 +1,3 @@
-pub mod Replying
+pub mod Answering
 pub mod Rows
 pub mod Running

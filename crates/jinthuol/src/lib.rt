@@ -1,20 +1,22 @@
 // The library for programs in other languages: the calls of crate encounter and the listing of a script, under names of C.
 ghost use mathlib.Core.Path.{_≡_};
-ghost use Rattle.encounter.specs.Session.{empty as none};
-ghost use Rattle.encounter.specs.Calls.{begin-call, add-call, read-call, Reached};
-ghost use Rattle.jinthuol.specs.Reply.{class-number, reply, replied};
+ghost use Rattle.encounter.specs.Session.{empty as empty-session};
+ghost use Rattle.encounter.specs.Calls.{begins, adds, reads, call, Reached};
+ghost use Rattle.jinthuol.specs.Answer.{class-number, numbered, called};
 ghost use Rattle.jinthuol.specs.Run.{RunOf};
 use encounter::calls;
-use encounter::state::Answer;
+use encounter::state;
 use encounter::state::Class;
 use encounter::state::Session;
+use exact::Encounter;
+use exact::LARGEST_SCRIPT;
 use exact::Scaled;
 use listing::script::put_lines;
 use listing::script::put_too_long;
 
 // An answer, with its class as a number.
 #[repr(C)]
-pub struct Reply {
+pub struct Answer {
     pub refusal: u32,
     pub N: u32,
     pub lower: Scaled,
@@ -22,9 +24,9 @@ pub struct Reply {
     pub class: u32,
 }
 
-// A reply, and the session after the call.
-pub struct Replied {
-    pub reply: Reply,
+// The answer of a call, and the session after it.
+pub struct Called {
+    pub answer: Answer,
     pub session: Session,
 }
 
@@ -44,13 +46,13 @@ fn number(c: Class) -> u32
     }
 }
 
-fn reply_to(a: Answer) -> Reply
-    ensures { λ r. ⌜ r ≡ reply a ⌝ }
+fn answer_of(a: state::Answer) -> Answer
+    ensures { λ r. ⌜ r ≡ numbered a ⌝ }
 {
     let lower = a.lower;
     let upper = a.upper;
     let class = a.class;
-    Reply {
+    Answer {
         refusal: a.refusal,
         N: a.N,
         lower,
@@ -59,71 +61,65 @@ fn reply_to(a: Answer) -> Reply
     }
 }
 
-fn begun(s: Session, R: u32, sx: u32, sy: u32, xm: i32, ym: i32) -> Replied
-    requires { ⌜ Reached s ⌝ }
-    ensures { λ r. ⌜ (r ≡ replied (begin-call (encounter-of R sx sy xm ym) s)) × Reached (r .session) ⌝ }
+fn called_of(c: state::Called) -> Called
+    ensures { λ r. ⌜ r ≡ called c ⌝ }
 {
-    let c = calls::begin(s, R, sx, sy, xm, ym);
     let answer = c.answer;
-    let reply = reply_to(answer);
+    let answer = answer_of(answer);
     let session = c.session;
-    Replied { reply, session }
+    Called { answer, session }
 }
 
-fn added(s: Session, count: u16) -> Replied
+fn begun(s: Session, E: Encounter) -> Called
     requires { ⌜ Reached s ⌝ }
-    ensures { λ r. ⌜ (r ≡ replied (add-call count s)) × Reached (r .session) ⌝ }
+    ensures { λ r. ⌜ (r ≡ called (call (begins E) s)) × Reached (r .session) ⌝ }
 {
-    let c = calls::add(s, count);
-    let answer = c.answer;
-    let reply = reply_to(answer);
-    let session = c.session;
-    Replied { reply, session }
+    called_of(calls::begin(s, E))
+}
+
+fn added(s: Session, count: u16) -> Called
+    requires { ⌜ Reached s ⌝ }
+    ensures { λ r. ⌜ (r ≡ called (call (adds count) s)) × Reached (r .session) ⌝ }
+{
+    called_of(calls::add(s, count))
 }
 
 // No encounter begun.
 #[no_mangle]
-pub extern "C" fn jinthuol_open() -> Session
-    ensures { λ r. ⌜ (r ≡ none) × Reached r ⌝ }
+pub extern "C" fn jinthuol_empty() -> Session
+    ensures { λ r. ⌜ (r ≡ empty-session) × Reached r ⌝ }
 {
     Session::empty()
 }
 
 #[no_mangle]
-pub extern "C" fn jinthuol_begin(
-    session: &mut Session,
-    R: u32,
-    sx: u32,
-    sy: u32,
-    xm: i32,
-    ym: i32,
-) -> Reply
+pub extern "C" fn jinthuol_begin(session: &mut Session, encounter: Encounter) -> Answer
     requires { ⌜ Reached (now session) ⌝ }
-    ensures { λ r. ⌜ (r ≡ reply (begin-call (encounter-of R sx sy xm ym) (now (session .entry)) .answer)) × (now (session .exit) ≡ begin-call (encounter-of R sx sy xm ym) (now (session .entry)) .session) × Reached (now (session .exit)) ⌝ }
+    ensures { λ r. ⌜ (r ≡ numbered (call (begins encounter) (now (session .entry)) .answer)) × (now (session .exit) ≡ call (begins encounter) (now (session .entry)) .session) × Reached (now (session .exit)) ⌝ }
 {
     let before = *session;
-    let r = begun(before, R, sx, sy, xm, ym);
+    let r = begun(before, encounter);
     *session = r.session;
-    r.reply
+    r.answer
 }
 
 #[no_mangle]
-pub extern "C" fn jinthuol_add(session: &mut Session, count: u16) -> Reply
+pub extern "C" fn jinthuol_add(session: &mut Session, count: u16) -> Answer
     requires { ⌜ Reached (now session) ⌝ }
-    ensures { λ r. ⌜ (r ≡ reply (add-call count (now (session .entry)) .answer)) × (now (session .exit) ≡ add-call count (now (session .entry)) .session) × Reached (now (session .exit)) ⌝ }
+    ensures { λ r. ⌜ (r ≡ numbered (call (adds count) (now (session .entry)) .answer)) × (now (session .exit) ≡ call (adds count) (now (session .entry)) .session) × Reached (now (session .exit)) ⌝ }
 {
     let before = *session;
     let r = added(before, count);
     *session = r.session;
-    r.reply
+    r.answer
 }
 
 #[no_mangle]
-pub extern "C" fn jinthuol_read(session: Session) -> Reply
+pub extern "C" fn jinthuol_read(session: Session) -> Answer
     requires { ⌜ Reached session ⌝ }
-    ensures { λ r. ⌜ r ≡ reply (read-call session .answer) ⌝ }
+    ensures { λ r. ⌜ r ≡ numbered (call reads session .answer) ⌝ }
 {
-    reply_to(calls::read(session))
+    answer_of(calls::read(session))
 }
 
 // The listing of a script, as far as the buffer has room for it.

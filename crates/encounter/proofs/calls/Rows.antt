@@ -1,11 +1,11 @@
--- The session, the inputs and the answers as LendOne.antt takes them, and what a lent call of this crate promises.
+-- The session, the inputs and the answers as Lending.antt takes them, and what a lent call of this crate promises.
 use mathlib.Core.Path.{_≡_, ap}
 use denote.Struct.Laws as laws
 use Rattle.encounter.specs.declared.state.Session.{Session}
 use Rattle.encounter.specs.declared.state.Answer.{Answer}
 use Rattle.encounter.specs.declared.state.Called.{Called}
 use Rattle.encounter.specs.Calls.{Call, call, Reached}
-use Rattle.encounter.proofs.calls.LendOne.{Plainly, Pairs, of-struct}
+use Rattle.encounter.proofs.calls.Lending.{Plainly, Pairs, of-struct}
 use Rattle.encounter.proofs.state.Session as S
 use Rattle.encounter.proofs.state.Session.Laws as S′
 use Rattle.encounter.proofs.state.Answer as A

@@ -1,7 +1,7 @@
--- `Session::add` is a function of LendOne.antt, over the call by value.
+-- `Session::add` is a function of Lending.antt, over the call by value.
 use mir.Syntax.{w16}
 use Rattle.encounter.specs.Calls.{adds, Reached}
-use Rattle.encounter.proofs.calls.LendOne.{of-uint, lent-spec}
+use Rattle.encounter.proofs.calls.Lending.{of-uint, lent-spec}
 use Rattle.encounter.proofs.calls.Rows.{session, answer, called, gives, Post, Post′}
 use Rattle.encounter.proofs.calls.add.Symbol as by-value
 use Rattle.encounter.proofs.calls.add.Met as theorem

@@ -1,6 +1,6 @@
--- `Session::begin` is a function of LendOne.antt, over the call by value.
+-- `Session::begin` is a function of Lending.antt, over the call by value.
 use Rattle.encounter.specs.Calls.{begins, Reached}
-use Rattle.encounter.proofs.calls.LendOne.{lent-spec}
+use Rattle.encounter.proofs.calls.Lending.{lent-spec}
 use Rattle.encounter.proofs.calls.Rows.{session, inputs, answer, called, gives, Post, Post′}
 use Rattle.encounter.proofs.calls.begin.Symbol as by-value
 use Rattle.encounter.proofs.calls.begin.Met as theorem
