@@ -10,6 +10,7 @@ use encounter::state::Answer;
 use encounter::state::Class;
 use encounter::state::Session;
 use exact::Scaled;
+use listing::script::LARGEST_SCRIPT;
 use listing::script::put_lines;
 use listing::script::put_too_long;
 
@@ -132,7 +133,7 @@ pub extern "C" fn jinthuol_read(session: Session) -> Reply
 pub extern "C" fn jinthuol_run(script: &[u8], out: &mut [u8]) -> Run
     ensures { λ r. ⌜ RunOf (now (script .entry)) (now (out .entry)) (now (out .exit)) r ⌝ }
 {
-    if 65536 < script.len() {
+    if LARGEST_SCRIPT < script.len() {
         let used = put_too_long(out);
         return Run {
             used,

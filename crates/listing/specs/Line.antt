@@ -60,6 +60,6 @@ outcome-text kind a = cond (eqb (a .refusal) 0) (taken-text kind a) (ascii "refu
 unfoldable pub line : (offset kind : ℕ) → Answer → List ℕ
 line offset kind a = decimal offset ++ ascii " " ++ outcome-text kind a ++ ascii "\n"
 
--- the bytes that put_line asks for, from the line's first index on
+-- the bytes that put_line asks for, from the line's first index on, whatever the line; no line has more
 abbrev pub room : ℕ
 room = 100

@@ -1,10 +1,8 @@
 // The text of a line of a listing, and the listing of a script in pieces.
 ghost use mathlib.Core.Path.{_≡_};
-ghost use Prim.Native.Nat.{_+_, _≤_};
 ghost use lib.IntN.{natAbs};
-ghost use lib.ListN.{length};
 ghost use Rattle.listing.specs.Line.{decimal, integer, scaled, ends-text, class-text, read-text, outcome-text, line};
-ghost use Rattle.listing.specs.Put.{Put, PutLine};
+ghost use Rattle.listing.specs.Put.{RoomFor, Put, PutLine};
 
 pub mod script;
 
@@ -12,12 +10,12 @@ use encounter::state::Answer;
 use encounter::state::Class;
 use exact::Scaled;
 
-// The bytes that a line is given.
+// The bytes that a line is given: no line has more.
 pub const ROOM: usize = 100;
 
 // The bytes of text, from index at on. Answers the index past them, as each function here does.
 fn put(out: &mut [u8], at: usize, text: &[u8]) -> usize
-    requires { ⌜ at + length (now text) ≤ length (now out) ⌝ }
+    requires { ⌜ RoomFor (now out) at (now text) ⌝ }
     ensures { λ r. ⌜ Put (now (out .entry)) (now (out .exit)) at (now (text .entry)) r ⌝ }
 {
     let mut i = 0;
@@ -30,20 +28,18 @@ fn put(out: &mut [u8], at: usize, text: &[u8]) -> usize
 
 // x, in decimal.
 fn put_number(out: &mut [u8], at: usize, x: u64) -> usize
-    requires { ⌜ at + 20 ≤ length (now out) ⌝ }
+    requires { ⌜ RoomFor (now out) at (decimal x) ⌝ }
     ensures { λ r. ⌜ Put (now (out .entry)) (now (out .exit)) at (decimal x) r ⌝ }
-    ensures { λ r. ⌜ r ≤ at + 20 ⌝ }
 {
     let mut d = [0u8; 20];
     let k = io::decimal(x, &mut d);
     put(out, at, &d[..k])
 }
 
-// x, in decimal: at most 10 digits.
+// x, in decimal.
 fn put_word(out: &mut [u8], at: usize, x: u32) -> usize
-    requires { ⌜ at + 20 ≤ length (now out) ⌝ }
+    requires { ⌜ RoomFor (now out) at (decimal x) ⌝ }
     ensures { λ r. ⌜ Put (now (out .entry)) (now (out .exit)) at (decimal x) r ⌝ }
-    ensures { λ r. ⌜ r ≤ at + 10 ⌝ }
 {
     put_number(out, at, x as u64)
 }
@@ -60,9 +56,8 @@ fn magnitude(e: i32) -> u32
 
 // e, with a minus sign where it is negative.
 fn put_integer(out: &mut [u8], at: usize, e: i32) -> usize
-    requires { ⌜ at + 21 ≤ length (now out) ⌝ }
+    requires { ⌜ RoomFor (now out) at (integer e) ⌝ }
     ensures { λ r. ⌜ Put (now (out .entry)) (now (out .exit)) at (integer e) r ⌝ }
-    ensures { λ r. ⌜ r ≤ at + 11 ⌝ }
 {
     let m = magnitude(e);
     if e < 0 {
@@ -74,9 +69,8 @@ fn put_integer(out: &mut [u8], at: usize, e: i32) -> usize
 
 // m and e.
 fn put_scaled(out: &mut [u8], at: usize, x: Scaled) -> usize
-    requires { ⌜ at + 32 ≤ length (now out) ⌝ }
+    requires { ⌜ RoomFor (now out) at (scaled x) ⌝ }
     ensures { λ r. ⌜ Put (now (out .entry)) (now (out .exit)) at (scaled x) r ⌝ }
-    ensures { λ r. ⌜ r ≤ at + 22 ⌝ }
 {
     let m = x.m;
     let e = x.e;
@@ -87,9 +81,8 @@ fn put_scaled(out: &mut [u8], at: usize, x: Scaled) -> usize
 
 // m and e of both ends.
 fn put_ends(out: &mut [u8], at: usize, lower: Scaled, upper: Scaled) -> usize
-    requires { ⌜ at + 55 ≤ length (now out) ⌝ }
+    requires { ⌜ RoomFor (now out) at (ends-text lower upper) ⌝ }
     ensures { λ r. ⌜ Put (now (out .entry)) (now (out .exit)) at (ends-text lower upper) r ⌝ }
-    ensures { λ r. ⌜ r ≤ at + 45 ⌝ }
 {
     let k = put_scaled(out, at, lower);
     let l = put(out, k, b" ");
@@ -97,9 +90,8 @@ fn put_ends(out: &mut [u8], at: usize, lower: Scaled, upper: Scaled) -> usize
 }
 
 fn put_class(out: &mut [u8], at: usize, class: Class) -> usize
-    requires { ⌜ at + 5 ≤ length (now out) ⌝ }
+    requires { ⌜ RoomFor (now out) at (class-text class) ⌝ }
     ensures { λ r. ⌜ Put (now (out .entry)) (now (out .exit)) at (class-text class) r ⌝ }
-    ensures { λ r. ⌜ r ≤ at + 5 ⌝ }
 {
     match class {
         Class::Clear => put(out, at, b"clear"),
@@ -109,9 +101,8 @@ fn put_class(out: &mut [u8], at: usize, class: Class) -> usize
 
 // What a read answered.
 fn put_read(out: &mut [u8], at: usize, a: Answer) -> usize
-    requires { ⌜ at + 71 ≤ length (now out) ⌝ }
+    requires { ⌜ RoomFor (now out) at (read-text a) ⌝ }
     ensures { λ r. ⌜ Put (now (out .entry)) (now (out .exit)) at (read-text a) r ⌝ }
-    ensures { λ r. ⌜ r ≤ at + 67 ⌝ }
 {
     let lower = a.lower;
     let upper = a.upper;
@@ -126,9 +117,8 @@ fn put_read(out: &mut [u8], at: usize, a: Answer) -> usize
 
 // What a record was answered, by its kind byte.
 fn put_outcome(out: &mut [u8], at: usize, kind: u8, a: Answer) -> usize
-    requires { ⌜ at + 71 ≤ length (now out) ⌝ }
+    requires { ⌜ RoomFor (now out) at (outcome-text kind a) ⌝ }
     ensures { λ r. ⌜ Put (now (out .entry)) (now (out .exit)) at (outcome-text kind a) r ⌝ }
-    ensures { λ r. ⌜ r ≤ at + 67 ⌝ }
 {
     if a.refusal == 0 {
         if kind == 1 {
@@ -146,9 +136,8 @@ fn put_outcome(out: &mut [u8], at: usize, kind: u8, a: Answer) -> usize
 
 // The line, where there is room for it.
 fn put_whole(out: &mut [u8], at: usize, offset: usize, kind: u8, a: Answer) -> usize
-    requires { ⌜ at + 100 ≤ length (now out) ⌝ }
+    requires { ⌜ RoomFor (now out) at (line offset kind a) ⌝ }
     ensures { λ r. ⌜ Put (now (out .entry)) (now (out .exit)) at (line offset kind a) r ⌝ }
-    ensures { λ r. ⌜ r ≤ at + 89 ⌝ }
 {
     let k = put_number(out, at, offset as u64);
     let l = put(out, k, b" ");
@@ -157,7 +146,7 @@ fn put_whole(out: &mut [u8], at: usize, offset: usize, kind: u8, a: Answer) -> u
 }
 
 // The line of a record, from index at on: the offset of its kind byte, that byte and its answer. Answers the index past the line, or at where fewer than
-// 100 bytes are left.
+// ROOM bytes are left.
 pub fn put_line(out: &mut [u8], at: usize, offset: usize, kind: u8, a: Answer) -> usize
     ensures { λ r. ⌜ PutLine (now (out .entry)) (now (out .exit)) at offset kind a r ⌝ }
 {

@@ -1,5 +1,5 @@
 use Rattle.listing.specs.Line.{read-text}
-use Rattle.listing.proofs.Putting.{joined}
+use Rattle.listing.proofs.Putting.{joined, parts}
 use native.Mathlib.Omega.{arith}
 use borrow.Author.Needs.{needs}
 use Rattle.listing.proofs.put_read.Statement.{statement}
@@ -9,28 +9,34 @@ slice-aggregate-put : tie.Need-slice-aggregate-put
 slice-aggregate-put c = search needs
 
 put-requires : tie.Need-put-requires
-put-requires c κs = search needs
+unfolding read-text
+put-requires c κs = omega (arith, parts)
 
 put-word-requires : tie.Need-put-word-requires
-put-word-requires c κs = search needs
+unfolding read-text
+put-word-requires c κs = omega (arith, parts)
 
 slice-aggregate-put-2 : tie.Need-slice-aggregate-put-2
 slice-aggregate-put-2 c = search needs
 
 put-requires-2 : tie.Need-put-requires-2
-put-requires-2 c κs = search needs
+unfolding read-text
+put-requires-2 c κs = omega (arith, parts)
 
 put-ends-requires : tie.Need-put-ends-requires
-put-ends-requires c κs = search needs
+unfolding read-text
+put-ends-requires c κs = omega (arith, parts)
 
 slice-aggregate-put-3 : tie.Need-slice-aggregate-put-3
 slice-aggregate-put-3 c = search needs
 
 put-requires-3 : tie.Need-put-requires-3
-put-requires-3 c κs = search needs
+unfolding read-text
+put-requires-3 c κs = omega (arith, parts)
 
 put-class-requires : tie.Need-put-class-requires
-put-class-requires c κs = search needs
+unfolding read-text
+put-class-requires c κs = omega (arith, parts)
 
 same-length : tie.Need-same-length
 same-length c = search needs
@@ -38,13 +44,13 @@ same-length c = search needs
 returns : tie.Need-returns
 unfolding read-text
 returns c =
-    let p = c .before .before .before .before .before .before .before .before .before .before .before .before .before .before .before .before .before .before .before .before .before .before .before .before .put .ensures in
-    let n = c .before .before .before .before .before .before .before .before .before .before .before .before .before .before .before .before .before .before .before .before .put-word .ensures in
-    let s = c .before .before .before .before .before .before .before .before .before .before .before .before .before .before .before .put2 .ensures in
-    let e = c .before .before .before .before .before .before .before .before .before .before .before .put-ends .ensures in
-    let t = c .before .before .before .before .before .before .put3 .ensures in
-    let q = c .before .before .put-class .ensures in
-    (joined (joined (joined (joined (joined p (n .0)) s) (e .0)) t) (q .0), omega (arith, p .ends, n .1, s .ends, e .1, t .ends, q .1))
+    let k = c .before .before in
+    let t = k .before .before .before .before in
+    let e = t .before .before .before .before .before in
+    let s = e .before .before .before .before in
+    let n = s .before .before .before .before .before in
+    let r = n .before .before .before .before in
+    joined (joined (joined (joined (joined (r .put .ensures) (n .put-word .ensures)) (s .put2 .ensures)) (e .put-ends .ensures)) (t .put3 .ensures)) (k .put-class .ensures)
 
 pub put-read-spec : {M : Type 1} → statement M
 put-read-spec =
