@@ -73,17 +73,20 @@ joined {b0} {b1} {b2} {at} {t} {r} {u} {s} p q =
     }
 
 -- room for a text is room for the lengths of its parts
+pub room-2 : (b : List ℕ) (at : ℕ) (t u : List ℕ) → RoomFor b at (t ++ u) → at + (length t + length u) ≤ length b
+room-2 b at t u h = omega (arith, simp length-append at (h .enough))
+
 pub room-3 : (b : List ℕ) (at : ℕ) (t u v : List ℕ) → RoomFor b at (t ++ u ++ v) → at + (length t + length u + length v) ≤ length b
 room-3 b at t u v h = omega (arith, simp length-append at (h .enough))
 
 pub room-4 : (b : List ℕ) (at : ℕ) (t u v w : List ℕ) → RoomFor b at (t ++ u ++ v ++ w) → at + (length t + length u + length v + length w) ≤ length b
 room-4 b at t u v w h = omega (arith, simp length-append at (h .enough))
 
-pub room-6 : (b : List ℕ) (at : ℕ) (t u v w x y : List ℕ) → RoomFor b at (t ++ u ++ v ++ w ++ x ++ y) → at + (length t + length u + length v + length w + length x + length y) ≤ length b
-room-6 b at t u v w x y h = omega (arith, simp length-append at (h .enough))
+pub room-5 : (b : List ℕ) (at : ℕ) (t u v w x : List ℕ) → RoomFor b at (t ++ u ++ v ++ w ++ x) → at + (length t + length u + length v + length w + length x) ≤ length b
+room-5 b at t u v w x h = omega (arith, simp length-append at (h .enough))
 
 -- omega's rules for texts of so many parts, of which it takes the first that fits: the longest stands first
-pub ruleset parts = (room-6, room-4, room-3)
+pub ruleset parts = (room-5, room-4, room-3, room-2)
 
 -- the text put, by another name
 pub renamed : {before after : List ℕ} {at : ℕ} {t u : List ℕ} {r : ℕ} → t ≡ u → Put before after at t r → Put before after at u r

@@ -1,7 +1,8 @@
 // The text of a line of a listing, and the listing of a script in pieces.
 ghost use mathlib.Core.Path.{_≡_};
+ghost use mathlib.Core.List.{_++_};
 ghost use lib.IntN.{natAbs};
-ghost use Rattle.listing.specs.Line.{decimal, integer, scaled, ends-text, class-text, read-text, outcome-text, line};
+ghost use Rattle.listing.specs.Line.{decimal, integer, scaled, class-text, ends-and-class, read-text, outcome-text, line};
 ghost use Rattle.listing.specs.Put.{RoomFor, Put, PutLine};
 
 pub mod script;
@@ -44,6 +45,15 @@ fn put_word(out: &mut [u8], at: usize, x: u32) -> usize
     put_number(out, at, x as u64)
 }
 
+// The bytes of text, then x in decimal.
+fn put_and_word(out: &mut [u8], at: usize, text: &[u8], x: u32) -> usize
+    requires { ⌜ RoomFor (now out) at (now text ++ decimal x) ⌝ }
+    ensures { λ r. ⌜ Put (now (out .entry)) (now (out .exit)) at (now (text .entry) ++ decimal x) r ⌝ }
+{
+    let k = put(out, at, text);
+    put_word(out, k, x)
+}
+
 // The magnitude of e.
 fn magnitude(e: i32) -> u32
     ensures { λ r. ⌜ r ≡ natAbs e ⌝ }
@@ -61,8 +71,7 @@ fn put_integer(out: &mut [u8], at: usize, e: i32) -> usize
 {
     let m = magnitude(e);
     if e < 0 {
-        let k = put(out, at, b"-");
-        return put_word(out, k, m);
+        return put_and_word(out, at, b"-", m);
     }
     put_word(out, at, m)
 }
@@ -79,16 +88,6 @@ fn put_scaled(out: &mut [u8], at: usize, x: Scaled) -> usize
     put_integer(out, l, e)
 }
 
-// m and e of both ends.
-fn put_ends(out: &mut [u8], at: usize, lower: Scaled, upper: Scaled) -> usize
-    requires { ⌜ RoomFor (now out) at (ends-text lower upper) ⌝ }
-    ensures { λ r. ⌜ Put (now (out .entry)) (now (out .exit)) at (ends-text lower upper) r ⌝ }
-{
-    let k = put_scaled(out, at, lower);
-    let l = put(out, k, b" ");
-    put_scaled(out, l, upper)
-}
-
 fn put_class(out: &mut [u8], at: usize, class: Class) -> usize
     requires { ⌜ RoomFor (now out) at (class-text class) ⌝ }
     ensures { λ r. ⌜ Put (now (out .entry)) (now (out .exit)) at (class-text class) r ⌝ }
@@ -99,20 +98,29 @@ fn put_class(out: &mut [u8], at: usize, class: Class) -> usize
     }
 }
 
+// m and e of both ends, and the class.
+fn put_ends_and_class(out: &mut [u8], at: usize, a: Answer) -> usize
+    requires { ⌜ RoomFor (now out) at (ends-and-class a) ⌝ }
+    ensures { λ r. ⌜ Put (now (out .entry)) (now (out .exit)) at (ends-and-class a) r ⌝ }
+{
+    let lower = a.lower;
+    let upper = a.upper;
+    let class = a.class;
+    let k = put_scaled(out, at, lower);
+    let l = put(out, k, b" ");
+    let m = put_scaled(out, l, upper);
+    let n = put(out, m, b" ");
+    put_class(out, n, class)
+}
+
 // What a read answered.
 fn put_read(out: &mut [u8], at: usize, a: Answer) -> usize
     requires { ⌜ RoomFor (now out) at (read-text a) ⌝ }
     ensures { λ r. ⌜ Put (now (out .entry)) (now (out .exit)) at (read-text a) r ⌝ }
 {
-    let lower = a.lower;
-    let upper = a.upper;
-    let class = a.class;
-    let b = put(out, at, b"read ");
-    let c = put_word(out, b, a.N);
-    let d = put(out, c, b" ");
-    let e = put_ends(out, d, lower, upper);
-    let f = put(out, e, b" ");
-    put_class(out, f, class)
+    let k = put_and_word(out, at, b"read ", a.N);
+    let l = put(out, k, b" ");
+    put_ends_and_class(out, l, a)
 }
 
 // What a record was answered, by its kind byte.
@@ -125,13 +133,11 @@ fn put_outcome(out: &mut [u8], at: usize, kind: u8, a: Answer) -> usize
             return put(out, at, b"begun 1");
         }
         if kind == 2 {
-            let k = put(out, at, b"added ");
-            return put_word(out, k, a.N);
+            return put_and_word(out, at, b"added ", a.N);
         }
         return put_read(out, at, a);
     }
-    let k = put(out, at, b"refused ");
-    put_word(out, k, a.refusal)
+    put_and_word(out, at, b"refused ", a.refusal)
 }
 
 // The line, where there is room for it.
