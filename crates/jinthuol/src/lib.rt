@@ -11,6 +11,7 @@ use encounter::state::Session;
 use exact::Encounter;
 use exact::LARGEST_SCRIPT;
 use exact::Scaled;
+use listing::script::LARGEST_SCRIPT;
 use listing::script::put_lines;
 use listing::script::put_too_long;
 
@@ -127,7 +128,7 @@ pub extern "C" fn jinthuol_read(session: Session) -> Answer
 pub extern "C" fn jinthuol_run(script: &[u8], out: &mut [u8]) -> Run
     ensures { λ r. ⌜ RunOf (now (script .entry)) (now (out .entry)) (now (out .exit)) r ⌝ }
 {
-    if 65536 < script.len() {
+    if LARGEST_SCRIPT < script.len() {
         let used = put_too_long(out);
         return Run {
             used,

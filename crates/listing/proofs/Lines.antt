@@ -15,6 +15,7 @@ use Rattle.encounter.specs.Session.{refused}
 use Rattle.encounter.specs.Calls.{Request, begin, add, read, bad, request-of, request-at, taken, record-call, Reached}
 use Rattle.listing.specs.Line.{line, room}
 use Rattle.listing.specs.Put.{Put}
+use Rattle.listing.proofs.Lengths.{either}
 use Rattle.listing.proofs.Putting.{dropped}
 use Rattle.listing.specs.Listing.{is-final, lines, listing, Written, none, more, PieceOf}
 
@@ -36,10 +37,6 @@ Final (begin E) = Unit {0}
 Final (add count) = Unit {0}
 Final read = Unit {0}
 Final (bad r) = is-final (refused r) ≡ true
-
-either : {A : Type 0} (P : A → Type 0) (b : Bool) {x y : A} → P x → P y → P (cond b x y)
-either P true f g = f
-either P false f g = g
 
 finals : (l : List ℕ) (i : ℕ) → Final (request-at l i)
 unfolding request-at request-of is-final
@@ -112,7 +109,7 @@ pub record Going (l : List ℕ) (i₀ : ℕ) (s₀ : Session) (before out : List
   pub within : used ≤ length out
   pub rest : drop used out ≡ drop used before
   pub same-length : length out ≡ length before
-  pub few : used + 89 * i₀ ≤ 89 * i
+  pub few : used + room * i₀ ≤ room * i
 
 pub going-start : (l : List ℕ) (i : ℕ) (s : Session) (out : List ℕ) → Reached s → Going l i s out out 0 i s
 going-start l i s out h =
@@ -150,7 +147,7 @@ module _ (l : List ℕ) (i₀ : ℕ) (s₀ : Session) (before out out′ : List 
       past : drop end out′ ≡ drop end before
       past = p .rest ∙ rw (p .ends) (dropped out before used (length (line i (getD l i 0) (t .recorded .answer))) (g .rest))
 
-      pub going-on : is-final (t .recorded .answer) ≡ false → Reached (t .session) → end ≤ used + 89 → Going l i₀ s₀ before out′ end (t .recorded .next) (t .session)
+      pub going-on : is-final (t .recorded .answer) ≡ false → Reached (t .session) → end ≤ used + room → Going l i₀ s₀ before out′ end (t .recorded .next) (t .session)
       going-on f w short =
           let m = next-is l i s t e f in
           record { written = longer; is = rw f at text; reached = w; within = fits; rest = past; same-length = p .same ∙ g .same-length; few = omega (arith, g .few) }

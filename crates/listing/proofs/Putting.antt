@@ -1,4 +1,4 @@
--- Text put into a buffer byte by byte, and two texts put one after the other.
+-- Text put into a buffer byte by byte, and texts put one after the other.
 use Prim.Native.Nat.{ℕ, suc, _+_, _≤_, _<_}
 use mathlib.Core.Path.{_≡_, refl, sym, _∙_, ap, subst}
 use mathlib.Core.List.{List, [], _∷_, _++_, append-assoc, append-nil}
@@ -7,7 +7,7 @@ use native.Mathlib.Nat.{add-zero}
 use native.Mathlib.Numerals.{add-one}
 use lib.ListN.{length, take, drop, set, getD, length-set, length-append}
 use lib.Seq.{take-suc, take-suc-set, take-length, drop-drop, drop-set-lt}
-use Rattle.listing.specs.Put.{Put}
+use Rattle.listing.specs.Put.{RoomFor, Put}
 
 -- lists that agree from index n on agree from a later one on
 pub dropped : (a b : List ℕ) (n k : ℕ) → drop n a ≡ drop n b → drop (n + k) a ≡ drop (n + k) b
@@ -71,6 +71,22 @@ joined {b0} {b1} {b2} {at} {t} {r} {u} {s} p q =
       rest = q .rest ∙ rw (q .ends) (dropped b1 b0 r (length u) (p .rest));
       same = q .same ∙ p .same;
     }
+
+-- room for a text is room for the lengths of its parts
+pub room-2 : (b : List ℕ) (at : ℕ) (t u : List ℕ) → RoomFor b at (t ++ u) → at + (length t + length u) ≤ length b
+room-2 b at t u h = omega (arith, simp length-append at (h .enough))
+
+pub room-3 : (b : List ℕ) (at : ℕ) (t u v : List ℕ) → RoomFor b at (t ++ u ++ v) → at + (length t + length u + length v) ≤ length b
+room-3 b at t u v h = omega (arith, simp length-append at (h .enough))
+
+pub room-4 : (b : List ℕ) (at : ℕ) (t u v w : List ℕ) → RoomFor b at (t ++ u ++ v ++ w) → at + (length t + length u + length v + length w) ≤ length b
+room-4 b at t u v w h = omega (arith, simp length-append at (h .enough))
+
+pub room-5 : (b : List ℕ) (at : ℕ) (t u v w x : List ℕ) → RoomFor b at (t ++ u ++ v ++ w ++ x) → at + (length t + length u + length v + length w + length x) ≤ length b
+room-5 b at t u v w x h = omega (arith, simp length-append at (h .enough))
+
+-- omega's rules for texts of so many parts, of which it takes the first that fits: the longest stands first
+pub ruleset parts = (room-5, room-4, room-3, room-2)
 
 -- the text put, by another name
 pub renamed : {before after : List ℕ} {at : ℕ} {t u : List ℕ} {r : ℕ} → t ≡ u → Put before after at t r → Put before after at u r

@@ -30,22 +30,22 @@ unfoldable pub integer : ℤ → List ℕ
 integer (pos n) = decimal n
 integer (negsuc n) = ascii "-" ++ decimal (suc n)
 
--- "m and e of both ends"
+-- "m and e"
 unfoldable pub scaled : Scaled → List ℕ
 scaled x = decimal (x .m) ++ ascii " " ++ integer (x .e)
 
-unfoldable pub ends-text : (lower upper : Scaled) → List ℕ
-ends-text lower upper = scaled lower ++ ascii " " ++ scaled upper
-
--- "then `alert` or `clear`"
+-- "`alert` or `clear`"
 unfoldable pub class-text : Class → List ℕ
 class-text Clear = ascii "clear"
 class-text Alert = ascii "alert"
 
+-- "`ml el mh eh class` (m and e of both ends, then `alert` or `clear`)"
+unfoldable pub ends-and-class : Answer → List ℕ
+ends-and-class a = scaled (a .lower) ++ ascii " " ++ scaled (a .upper) ++ ascii " " ++ class-text (a .class)
+
 -- "`read N ml el mh eh class`"
 unfoldable pub read-text : Answer → List ℕ
-read-text a =
-    ascii "read " ++ decimal (a .N) ++ ascii " " ++ ends-text (a .lower) (a .upper) ++ ascii " " ++ class-text (a .class)
+read-text a = ascii "read " ++ decimal (a .N) ++ ascii " " ++ ends-and-class a
 
 -- "`begun 1`, `added N` (the order after the add), [..] or `read N ml el mh eh class`": by the kind byte, 1 of a begin, 2 of an add and any other of a
 -- read
@@ -60,6 +60,6 @@ outcome-text kind a = cond (eqb (a .refusal) 0) (taken-text kind a) (ascii "refu
 unfoldable pub line : (offset kind : ℕ) → Answer → List ℕ
 line offset kind a = decimal offset ++ ascii " " ++ outcome-text kind a ++ ascii "\n"
 
--- the bytes that put_line asks for, from the line's first index on
+-- the bytes that put_line asks for, from the line's first index on, whatever the line; no line has more
 abbrev pub room : ℕ
 room = 100

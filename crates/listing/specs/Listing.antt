@@ -30,12 +30,18 @@ unfoldable pub listing : List ℕ → ℕ → Session → List ℕ
 listing l i s = lines (length l - i) l i s
 
 -- 8: "script file longer than 65,536 bytes (program only, before all else)"; "Refusal 8 prints `0 refused 8` only."
+abbrev pub largest-script : ℕ
+largest-script = 65536
+
+abbrev pub is-too-long : List ℕ → Bool
+is-too-long l = ltb largest-script (length l)
+
 abbrev pub too-long : Answer
 too-long = refused 8
 
 -- what the program prints
 unfoldable pub printed : List ℕ → List ℕ
-printed l = cond (ltb 65536 (length l)) (line 0 0 too-long) (listing l 0 empty)
+printed l = cond (is-too-long l) (line 0 0 too-long) (listing l 0 empty)
 
 -- text is that of some records from position i on, in order, each of whose lines had room among n bytes; then comes position j, with session t
 pub data Written (l : List ℕ) (n i : ℕ) (s : Session) : List ℕ → ℕ → Session → Type 0 where
@@ -49,12 +55,12 @@ pub data Written (l : List ℕ) (n i : ℕ) (s : Session) : List ℕ → ℕ →
 
 -- A piece of the listing from position i on: the first bytes of the buffer are the text of its records, and these bytes with the listing from the next
 -- position on are the listing. Each line had `room` bytes, and the piece ends before the listing does only where fewer are left; then it has used at most
--- 89 bytes for each byte of the script from i to the next position.
+-- `room` bytes for each byte of the script from i to the next position.
 pub record PieceOf (l : List ℕ) (i : ℕ) (s : Session) (before after : List ℕ) (p : Piece) : Type 0 where
   pub written : Written l (length before) i s (take (p .used) after) (p .next) (p .session)
   pub is : take (p .used) after ++ cond (p .ended) [] (listing l (p .next) (p .session)) ≡ listing l i s
   pub full : p .ended ≡ false → length before < p .used + room
-  pub few : p .ended ≡ false → p .used + 89 * i ≤ 89 * p .next
+  pub few : p .ended ≡ false → p .used + room * i ≤ room * p .next
   pub left : p .ended ≡ false → p .next < length l
   pub reached : Reached (p .session)
   pub within : p .used ≤ length after

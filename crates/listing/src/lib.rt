@@ -1,10 +1,9 @@
 // The text of a line of a listing, and the listing of a script in pieces.
 ghost use mathlib.Core.Path.{_≡_};
-ghost use Prim.Native.Nat.{_+_, _≤_};
+ghost use mathlib.Core.List.{_++_};
 ghost use lib.IntN.{natAbs};
-ghost use lib.ListN.{length};
-ghost use Rattle.listing.specs.Line.{decimal, integer, scaled, ends-text, class-text, read-text, outcome-text, line};
-ghost use Rattle.listing.specs.Put.{Put, PutLine};
+ghost use Rattle.listing.specs.Line.{decimal, integer, scaled, class-text, ends-and-class, read-text, outcome-text, line};
+ghost use Rattle.listing.specs.Put.{RoomFor, Put, PutLine};
 
 pub mod script;
 
@@ -12,12 +11,12 @@ use encounter::state::Answer;
 use encounter::state::Class;
 use exact::Scaled;
 
-// The bytes that a line is given.
+// The bytes that a line is given: no line has more.
 pub const ROOM: usize = 100;
 
 // The bytes of text, from index at on. Answers the index past them, as each function here does.
 fn put(out: &mut [u8], at: usize, text: &[u8]) -> usize
-    requires { ⌜ at + length (now text) ≤ length (now out) ⌝ }
+    requires { ⌜ RoomFor (now out) at (now text) ⌝ }
     ensures { λ r. ⌜ Put (now (out .entry)) (now (out .exit)) at (now (text .entry)) r ⌝ }
 {
     let mut i = 0;
@@ -30,22 +29,29 @@ fn put(out: &mut [u8], at: usize, text: &[u8]) -> usize
 
 // x, in decimal.
 fn put_number(out: &mut [u8], at: usize, x: u64) -> usize
-    requires { ⌜ at + 20 ≤ length (now out) ⌝ }
+    requires { ⌜ RoomFor (now out) at (decimal x) ⌝ }
     ensures { λ r. ⌜ Put (now (out .entry)) (now (out .exit)) at (decimal x) r ⌝ }
-    ensures { λ r. ⌜ r ≤ at + 20 ⌝ }
 {
     let mut d = [0u8; 20];
     let k = io::decimal(x, &mut d);
     put(out, at, &d[..k])
 }
 
-// x, in decimal: at most 10 digits.
+// x, in decimal.
 fn put_word(out: &mut [u8], at: usize, x: u32) -> usize
-    requires { ⌜ at + 20 ≤ length (now out) ⌝ }
+    requires { ⌜ RoomFor (now out) at (decimal x) ⌝ }
     ensures { λ r. ⌜ Put (now (out .entry)) (now (out .exit)) at (decimal x) r ⌝ }
-    ensures { λ r. ⌜ r ≤ at + 10 ⌝ }
 {
     put_number(out, at, x as u64)
+}
+
+// The bytes of text, then x in decimal.
+fn put_and_word(out: &mut [u8], at: usize, text: &[u8], x: u32) -> usize
+    requires { ⌜ RoomFor (now out) at (now text ++ decimal x) ⌝ }
+    ensures { λ r. ⌜ Put (now (out .entry)) (now (out .exit)) at (now (text .entry) ++ decimal x) r ⌝ }
+{
+    let k = put(out, at, text);
+    put_word(out, k, x)
 }
 
 // The magnitude of e.
@@ -60,23 +66,20 @@ fn magnitude(e: i32) -> u32
 
 // e, with a minus sign where it is negative.
 fn put_integer(out: &mut [u8], at: usize, e: i32) -> usize
-    requires { ⌜ at + 21 ≤ length (now out) ⌝ }
+    requires { ⌜ RoomFor (now out) at (integer e) ⌝ }
     ensures { λ r. ⌜ Put (now (out .entry)) (now (out .exit)) at (integer e) r ⌝ }
-    ensures { λ r. ⌜ r ≤ at + 11 ⌝ }
 {
     let m = magnitude(e);
     if e < 0 {
-        let k = put(out, at, b"-");
-        return put_word(out, k, m);
+        return put_and_word(out, at, b"-", m);
     }
     put_word(out, at, m)
 }
 
 // m and e.
 fn put_scaled(out: &mut [u8], at: usize, x: Scaled) -> usize
-    requires { ⌜ at + 32 ≤ length (now out) ⌝ }
+    requires { ⌜ RoomFor (now out) at (scaled x) ⌝ }
     ensures { λ r. ⌜ Put (now (out .entry)) (now (out .exit)) at (scaled x) r ⌝ }
-    ensures { λ r. ⌜ r ≤ at + 22 ⌝ }
 {
     let m = x.m;
     let e = x.e;
@@ -85,21 +88,9 @@ fn put_scaled(out: &mut [u8], at: usize, x: Scaled) -> usize
     put_integer(out, l, e)
 }
 
-// m and e of both ends.
-fn put_ends(out: &mut [u8], at: usize, lower: Scaled, upper: Scaled) -> usize
-    requires { ⌜ at + 55 ≤ length (now out) ⌝ }
-    ensures { λ r. ⌜ Put (now (out .entry)) (now (out .exit)) at (ends-text lower upper) r ⌝ }
-    ensures { λ r. ⌜ r ≤ at + 45 ⌝ }
-{
-    let k = put_scaled(out, at, lower);
-    let l = put(out, k, b" ");
-    put_scaled(out, l, upper)
-}
-
 fn put_class(out: &mut [u8], at: usize, class: Class) -> usize
-    requires { ⌜ at + 5 ≤ length (now out) ⌝ }
+    requires { ⌜ RoomFor (now out) at (class-text class) ⌝ }
     ensures { λ r. ⌜ Put (now (out .entry)) (now (out .exit)) at (class-text class) r ⌝ }
-    ensures { λ r. ⌜ r ≤ at + 5 ⌝ }
 {
     match class {
         Class::Clear => put(out, at, b"clear"),
@@ -107,48 +98,52 @@ fn put_class(out: &mut [u8], at: usize, class: Class) -> usize
     }
 }
 
-// What a read answered.
-fn put_read(out: &mut [u8], at: usize, a: Answer) -> usize
-    requires { ⌜ at + 71 ≤ length (now out) ⌝ }
-    ensures { λ r. ⌜ Put (now (out .entry)) (now (out .exit)) at (read-text a) r ⌝ }
-    ensures { λ r. ⌜ r ≤ at + 67 ⌝ }
+// m and e of both ends, and the class.
+fn put_ends_and_class(out: &mut [u8], at: usize, a: Answer) -> usize
+    requires { ⌜ RoomFor (now out) at (ends-and-class a) ⌝ }
+    ensures { λ r. ⌜ Put (now (out .entry)) (now (out .exit)) at (ends-and-class a) r ⌝ }
 {
     let lower = a.lower;
     let upper = a.upper;
     let class = a.class;
-    let b = put(out, at, b"read ");
-    let c = put_word(out, b, a.N);
-    let d = put(out, c, b" ");
-    let e = put_ends(out, d, lower, upper);
-    let f = put(out, e, b" ");
-    put_class(out, f, class)
+    let k = put_scaled(out, at, lower);
+    let l = put(out, k, b" ");
+    let m = put_scaled(out, l, upper);
+    let n = put(out, m, b" ");
+    put_class(out, n, class)
+}
+
+// What a read answered.
+fn put_read(out: &mut [u8], at: usize, a: Answer) -> usize
+    requires { ⌜ RoomFor (now out) at (read-text a) ⌝ }
+    ensures { λ r. ⌜ Put (now (out .entry)) (now (out .exit)) at (read-text a) r ⌝ }
+{
+    let k = put_and_word(out, at, b"read ", a.N);
+    let l = put(out, k, b" ");
+    put_ends_and_class(out, l, a)
 }
 
 // What a record was answered, by its kind byte.
 fn put_outcome(out: &mut [u8], at: usize, kind: u8, a: Answer) -> usize
-    requires { ⌜ at + 71 ≤ length (now out) ⌝ }
+    requires { ⌜ RoomFor (now out) at (outcome-text kind a) ⌝ }
     ensures { λ r. ⌜ Put (now (out .entry)) (now (out .exit)) at (outcome-text kind a) r ⌝ }
-    ensures { λ r. ⌜ r ≤ at + 67 ⌝ }
 {
     if a.refusal == 0 {
         if kind == 1 {
             return put(out, at, b"begun 1");
         }
         if kind == 2 {
-            let k = put(out, at, b"added ");
-            return put_word(out, k, a.N);
+            return put_and_word(out, at, b"added ", a.N);
         }
         return put_read(out, at, a);
     }
-    let k = put(out, at, b"refused ");
-    put_word(out, k, a.refusal)
+    put_and_word(out, at, b"refused ", a.refusal)
 }
 
 // The line, where there is room for it.
 fn put_whole(out: &mut [u8], at: usize, offset: usize, kind: u8, a: Answer) -> usize
-    requires { ⌜ at + 100 ≤ length (now out) ⌝ }
+    requires { ⌜ RoomFor (now out) at (line offset kind a) ⌝ }
     ensures { λ r. ⌜ Put (now (out .entry)) (now (out .exit)) at (line offset kind a) r ⌝ }
-    ensures { λ r. ⌜ r ≤ at + 89 ⌝ }
 {
     let k = put_number(out, at, offset as u64);
     let l = put(out, k, b" ");
@@ -157,7 +152,7 @@ fn put_whole(out: &mut [u8], at: usize, offset: usize, kind: u8, a: Answer) -> u
 }
 
 // The line of a record, from index at on: the offset of its kind byte, that byte and its answer. Answers the index past the line, or at where fewer than
-// 100 bytes are left.
+// ROOM bytes are left.
 pub fn put_line(out: &mut [u8], at: usize, offset: usize, kind: u8, a: Answer) -> usize
     ensures { λ r. ⌜ PutLine (now (out .entry)) (now (out .exit)) at offset kind a r ⌝ }
 {

@@ -11,6 +11,9 @@ use encounter::state::Class;
 use encounter::state::Session;
 use exact::Scaled;
 
+// The bytes of the longest script that is run.
+pub const LARGEST_SCRIPT: usize = 65536;
+
 // The bytes of the buffer that are used, the next position and the session there, and whether the listing is at its end.
 pub struct Piece {
     pub used: usize,
@@ -29,7 +32,7 @@ fn is_final(a: Answer) -> bool
     a.refusal == 2
 }
 
-// The lines of the records from a position on, while the buffer has 100 bytes left.
+// The lines of the records from a position on, while the buffer has ROOM bytes left.
 pub fn put_lines(script: &[u8], at: usize, s: Session, out: &mut [u8]) -> Piece
     requires { ⌜ Reached s ⌝ }
     ensures { λ p. ⌜ PieceOf (now (script .entry)) at s (now (out .entry)) (now (out .exit)) p ⌝ }

@@ -1,5 +1,7 @@
 use Rattle.listing.specs.Line.{class-text}
 use mathlib.Core.Path.{sym, ap}
+use lib.ListN.{length}
+use Rattle.encounter.specs.declared.state.Class.{Class}
 use Rattle.listing.proofs.Putting.{renamed}
 use native.Mathlib.Omega.{arith}
 use borrow.Author.Needs.{needs}
@@ -13,7 +15,8 @@ slice-aggregate-put : tie.Need-slice-aggregate-put
 slice-aggregate-put c = search needs
 
 put-requires : tie.Need-put-requires
-put-requires c κs = search needs
+unfolding class-text
+put-requires c κs = omega (arith, ap (λ (k : Class). length (class-text k)) (c .before .before .enum-told .given .1))
 
 enum-told-2 : tie.Need-enum-told-2
 enum-told-2 c = search needs
@@ -22,25 +25,22 @@ slice-aggregate-put-2 : tie.Need-slice-aggregate-put-2
 slice-aggregate-put-2 c = search needs
 
 put-requires-2 : tie.Need-put-requires-2
-put-requires-2 c κs = search needs
+unfolding class-text
+put-requires-2 c κs = omega (arith, ap (λ (k : Class). length (class-text k)) (c .before .before .enum-told2 .given .1))
 
 same-length : tie.Need-same-length
 same-length c = search needs
 
 returns : tie.Need-returns
 unfolding class-text
-returns c =
-    let p = c .before .before .put .ensures in
-    (renamed (sym (ap class-text (c .before .before .before .before .before .enum-told .given .1))) p, omega (arith, p .ends))
+returns c = renamed (sym (ap class-text (c .before .before .before .before .before .enum-told .given .1))) (c .before .before .put .ensures)
 
 same-length-2 : tie.Need-same-length-2
 same-length-2 c = search needs
 
 returns-2 : tie.Need-returns-2
 unfolding class-text
-returns-2 c =
-    let p = c .before .before .put2 .ensures in
-    (renamed (sym (ap class-text (c .before .before .before .before .before .enum-told2 .given .1))) p, omega (arith, p .ends))
+returns-2 c = renamed (sym (ap class-text (c .before .before .before .before .before .enum-told2 .given .1))) (c .before .before .put2 .ensures)
 
 pub put-class-spec : {M : Type 1} → statement M
 put-class-spec =

@@ -1,9 +1,8 @@
 use native.Mathlib.Omega.{arith}
-use mathlib.Core.Path.{_∙_}
-use Rattle.listing.proofs.Decimals.{digits-decimal, decimal-20}
+use Rattle.listing.proofs.Decimals.{digits-decimal}
 use Rattle.listing.proofs.Putting.{renamed}
 use borrow.Author.Needs.{needs}
-use mathlib.Core.Path.{ap}
+use mathlib.Core.Path.{_∙_, ap}
 use lib.ListN.{length}
 use Rattle.listing.proofs.put_number.Statement.{statement}
 use Rattle.listing.proofs.put_number.Tie as tie
@@ -20,8 +19,7 @@ slice-aggregate-put c = search needs
 put-requires : tie.Need-put-requires
 put-requires c κs =
     let e = c .before .before .decimal .ensures in
-    let z = c .before .before .before .before .before in
-    omega (arith, z .pre, e .0 .1, ap length (e .1 .1 ∙ digits-decimal (z .args .x) (c .before .before .decimal .result) (e .1 .0)), decimal-20 (z .args .x) (z .fits .x .fits))
+    omega (arith, ap length (e .1 .1 ∙ digits-decimal _ _ (e .1 .0)))
 
 same-length : tie.Need-same-length
 same-length c = search needs
@@ -29,9 +27,7 @@ same-length c = search needs
 returns : tie.Need-returns
 returns c =
     let e = c .before .before .before .before .before .decimal .ensures in
-    let z = c .before .before .before .before .before .before .before .before in
-    let p = renamed (e .1 .1 ∙ digits-decimal (z .args .x) (c .before .before .before .before .before .decimal .result) (e .1 .0)) (c .before .before .put .ensures) in
-    (p, omega (arith, p .ends, decimal-20 (z .args .x) (z .fits .x .fits)))
+    renamed (e .1 .1 ∙ digits-decimal _ _ (e .1 .0)) (c .before .before .put .ensures)
 
 pub put-number-spec : {M : Type 1} → statement M
 put-number-spec =

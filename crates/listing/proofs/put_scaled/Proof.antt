@@ -1,22 +1,27 @@
-use Rattle.exact.proofs.Signed.{back}
 use Rattle.listing.specs.Line.{scaled}
-use Rattle.listing.proofs.Putting.{joined}
+use Rattle.listing.proofs.Putting.{joined, parts}
+use Rattle.exact.proofs.Signed.{back}
 use native.Mathlib.Omega.{arith}
 use borrow.Author.Needs.{needs}
 use Rattle.listing.proofs.put_scaled.Statement.{statement}
 use Rattle.listing.proofs.put_scaled.Tie as tie
 
 put-word-requires : tie.Need-put-word-requires
-put-word-requires c κs = search needs
+unfolding scaled
+put-word-requires c κs = omega (arith, parts)
 
 slice-aggregate-put : tie.Need-slice-aggregate-put
 slice-aggregate-put c = search needs
 
 put-requires : tie.Need-put-requires
-put-requires c κs = search needs
+unfolding scaled
+put-requires c κs = omega (arith, parts)
 
 put-integer-requires : tie.Need-put-integer-requires
-put-integer-requires c κs = search needs
+unfolding scaled
+put-integer-requires c κs =
+    let z = c .before .before .before .before .before .before .before .before .before .before in
+    rw (back (z .before .before .args .x .e) (z .struct-told .given .1 .0 .1)) (omega (arith, parts))
 
 same-length : tie.Need-same-length
 same-length c = search needs
@@ -24,11 +29,12 @@ same-length c = search needs
 returns : tie.Need-returns
 unfolding scaled
 returns c =
-    let z = c .before .before .before .before .before .before .before .before .before .before .before .before .before .before .before in
-    let p = c .before .before .before .before .before .before .before .before .before .before .before .put-word .ensures in
-    let s = c .before .before .before .before .before .before .put .ensures in
-    let q = rw (back (z .args .x .e) (c .before .before .before .before .before .before .before .before .before .before .before .before .before .struct-told .given .1 .0 .1)) at (c .before .before .put-integer .ensures) in
-    (joined (joined (p .0) s) (q .0), omega (arith, p .1, s .ends, q .1))
+    let i = c .before .before in
+    let s = i .before .before .before .before in
+    let m = s .before .before .before .before .before in
+    let z = m .before .before in
+    let q = rw (back (z .before .before .args .x .e) (z .struct-told .given .1 .0 .1)) at (i .put-integer .ensures) in
+    joined (joined (m .put-word .ensures) (s .put .ensures)) q
 
 pub put-scaled-spec : {M : Type 1} → statement M
 put-scaled-spec =

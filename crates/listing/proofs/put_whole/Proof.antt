@@ -1,27 +1,31 @@
 use Rattle.listing.specs.Line.{line}
-use Rattle.listing.proofs.Putting.{joined}
+use Rattle.listing.proofs.Putting.{joined, parts}
 use native.Mathlib.Omega.{arith}
 use borrow.Author.Needs.{needs}
 use Rattle.listing.proofs.put_whole.Statement.{statement}
 use Rattle.listing.proofs.put_whole.Tie as tie
 
 put-number-requires : tie.Need-put-number-requires
-put-number-requires c κs = search needs
+unfolding line
+put-number-requires c κs = omega (arith, parts)
 
 slice-aggregate-put : tie.Need-slice-aggregate-put
 slice-aggregate-put c = search needs
 
 put-requires : tie.Need-put-requires
-put-requires c κs = search needs
+unfolding line
+put-requires c κs = omega (arith, parts)
 
 put-outcome-requires : tie.Need-put-outcome-requires
-put-outcome-requires c κs = search needs
+unfolding line
+put-outcome-requires c κs = omega (arith, parts)
 
 slice-aggregate-put-2 : tie.Need-slice-aggregate-put-2
 slice-aggregate-put-2 c = search needs
 
 put-requires-2 : tie.Need-put-requires-2
-put-requires-2 c κs = search needs
+unfolding line
+put-requires-2 c κs = omega (arith, parts)
 
 same-length : tie.Need-same-length
 same-length c = search needs
@@ -29,11 +33,11 @@ same-length c = search needs
 returns : tie.Need-returns
 unfolding line
 returns c =
-    let p = c .before .before .before .before .before .before .before .before .before .before .before .before .before .before .before .before .put-number .ensures in
-    let s = c .before .before .before .before .before .before .before .before .before .before .before .put .ensures in
-    let q = c .before .before .before .before .before .before .before .put-outcome .ensures in
-    let n = c .before .before .put2 .ensures in
-    (joined (joined (joined (p .0) s) (q .0)) n, omega (arith, p .1, s .ends, q .1, n .ends))
+    let n = c .before .before in
+    let o = n .before .before .before .before .before in
+    let s = o .before .before .before .before in
+    let d = s .before .before .before .before .before in
+    joined (joined (joined (d .put-number .ensures) (s .put .ensures)) (o .put-outcome .ensures)) (n .put2 .ensures)
 
 pub put-whole-spec : {M : Type 1} → statement M
 put-whole-spec =
