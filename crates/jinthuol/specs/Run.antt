@@ -6,9 +6,10 @@ use Prim.Native.Nat.{ℕ, _+_, _*_, _≤_, _<_}
 use lib.Dec.{ltb}
 use lib.ListN.{length, take}
 use Rattle.encounter.specs.Session.{empty}
+use Rattle.exact.specs.Refusals.{refuses-8}
 use Rattle.listing.specs.Line.{room}
 use Rattle.listing.specs.Put.{PutLine}
-use Rattle.listing.specs.Listing.{PieceOf, is-too-long, printed, too-long}
+use Rattle.listing.specs.Listing.{PieceOf, printed, too-long}
 use Rattle.listing.specs.declared.script.Piece.{Piece}
 use Rattle.jinthuol.specs.declared.Run.{Run}
 
@@ -19,5 +20,5 @@ pub record RunOf (l before after : List ℕ) (r : Run) : Type 0 where
   pub whole : r .ended ≡ true → take (r .used) after ≡ printed l
   pub full : r .ended ≡ false → length before < r .used + room
   pub enough : room * length l ≤ length before → r .ended ≡ true
-  pub piece : is-too-long l ≡ false → (p : Piece) × PieceOf l 0 empty before after p × (p .used ≡ r .used) × (p .ended ≡ r .ended)
-  pub long : is-too-long l ≡ true → PutLine before after 0 0 0 too-long (r .used) × (r .ended ≡ ltb 0 (r .used))
+  pub piece : refuses-8 l ≡ false → (p : Piece) × PieceOf l 0 empty before after p × (p .used ≡ r .used) × (p .ended ≡ r .ended)
+  pub long : refuses-8 l ≡ true → PutLine before after 0 0 0 too-long (r .used) × (r .ended ≡ ltb 0 (r .used))

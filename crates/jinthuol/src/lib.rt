@@ -11,7 +11,6 @@ use encounter::state::Session;
 use exact::Encounter;
 use exact::LARGEST_SCRIPT;
 use exact::Scaled;
-use listing::script::LARGEST_SCRIPT;
 use listing::script::put_lines;
 use listing::script::put_too_long;
 

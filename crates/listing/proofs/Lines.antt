@@ -1,6 +1,6 @@
 -- The listing by records.
 use mathlib.Core.Path.{_≡_, refl, sym, _∙_, ap, subst}
-use mathlib.Core.Bool.{Bool, true, false, cond}
+use mathlib.Core.Bool.{Bool, true, false, cond, _||_}
 use mathlib.Core.List.{List, [], _++_, append-assoc}
 use Prim.Native.Nat.{ℕ, zero, suc, _+_, _-_, _*_, _≤_, _<_}
 use native.Mathlib.Omega.{arith}
@@ -11,13 +11,14 @@ use lib.Seq.{length-take-le}
 use Rattle.encounter.specs.declared.state.Session.{Session}
 use Rattle.encounter.specs.declared.state.Answer.{Answer}
 use Rattle.encounter.specs.declared.state.Taken.{Taken}
-use Rattle.encounter.specs.Session.{refused}
-use Rattle.encounter.specs.Calls.{Request, begin, add, read, bad, request-of, request-at, taken, record-call, Reached}
+use Rattle.exact.specs.Records.{body, bad, request-of}
+use Rattle.exact.specs.Refusals.{refuses-1, refuses-2, request-at, refusal}
+use Rattle.encounter.specs.Calls.{history-of, outcome, next-at, record-call, Reached}
 use Rattle.listing.specs.Line.{line, room}
 use Rattle.listing.specs.Put.{Put}
 use Rattle.listing.proofs.Lengths.{either}
 use Rattle.listing.proofs.Putting.{dropped}
-use Rattle.listing.specs.Listing.{is-final, lines, listing, Written, none, more, PieceOf}
+use Rattle.listing.specs.Listing.{is-final, lines, listing, Written, nothing, more, PieceOf}
 
 -- ---- the answers that end a script
 
@@ -31,35 +32,16 @@ final-other a h = rw (ne-eqb (a .refusal) 1 h)
 
 -- ---- a record that does not end the script lies before the next one
 
--- a request that is refused as it stands is refused as 1 or 2
-abbrev Final : Request → Type 0
-Final (begin E) = Unit {0}
-Final (add count) = Unit {0}
-Final read = Unit {0}
-Final (bad r) = is-final (refused r) ≡ true
+pub next-after : (l : List ℕ) (i : ℕ) (s : Session) → is-final (record-call l i s .answer) ≡ false → i < record-call l i s .next
+unfolding record-call next-at request-at outcome refusal is-final
+next-after l i s h = go (refuses-1 l i) (refuses-2 l i) h
+  where
+    go : (a b : Bool) → is-final (outcome (history-of s) (cond a (bad 1) (cond b (bad 2) (request-of (getD l i 0) l (i + 1)))) s .answer) ≡ false → i < cond (a || b) i (i + 1 + body (getD l i 0))
+    go true b h = absurd (subst T h tt)
+    go false true h = absurd (subst T h tt)
+    go false false h = omega arith
 
-finals : (l : List ℕ) (i : ℕ) → Final (request-at l i)
-unfolding request-at request-of is-final
-finals l i =
-    either Final (ltb i (length l))
-    (either Final (eqb (getD l i 0) 1)
-    (either Final (ltb (length l) (i + 1 + 20)) refl tt)
-    (either Final (eqb (getD l i 0) 2)
-    (either Final (ltb (length l) (i + 1 + 2)) refl tt)
-    (either Final (eqb (getD l i 0) 3) tt refl)))
-    refl
-
-moves : (q : Request) (i : ℕ) (s : Session) → Final q → is-final (taken q i s .recorded .answer) ≡ false → i < taken q i s .recorded .next
-moves (begin E) i s f h = omega arith
-moves (add count) i s f h = omega arith
-moves read i s f h = omega arith
-moves (bad r) i s f h = absurd (subst T (sym f ∙ h) tt)
-
-pub next-after : (l : List ℕ) (i : ℕ) (s : Session) → is-final (record-call l i s .recorded .answer) ≡ false → i < record-call l i s .recorded .next
-unfolding record-call
-next-after l i s h = moves (request-at l i) i s (finals l i) h
-
-pub next-is : (l : List ℕ) (i : ℕ) (s : Session) (t : Taken) → t ≡ record-call l i s → is-final (t .recorded .answer) ≡ false → i < t .recorded .next
+pub next-is : (l : List ℕ) (i : ℕ) (s : Session) (t : Taken) → t ≡ record-call l i s → is-final (t .answer) ≡ false → i < t .next
 next-is l i s t e f = rw e (next-after l i s (rw e at f))
 
 -- ---- the listing
@@ -82,22 +64,22 @@ same zero (suc j) l i s h g = rw (le-ltb i (length l) (omega arith))
 same (suc k) zero l i s h g = rw (le-ltb i (length l) (omega arith))
 same (suc k) (suc j) l i s h g =
     let t = record-call l i s in
-    ap (λ (x : List ℕ). cond (ltb i (length l)) (line i (getD l i 0) (t .recorded .answer) ++ x) [])
-    (unless (is-final (t .recorded .answer)) (λ e. let m = next-after l i s e in same k j l (t .recorded .next) (t .session) (omega arith) (omega arith)))
+    ap (λ (x : List ℕ). cond (ltb i (length l)) (line i (getD l i 0) (t .answer) ++ x) [])
+    (unless (is-final (t .answer)) (λ e. let m = next-after l i s e in same k j l (t .next) (t .session) (omega arith) (omega arith)))
 
 pub listing-step :
     (l : List ℕ) (i : ℕ) (s : Session) →
     i < length l →
     listing l i s ≡
-    line i (getD l i 0) (record-call l i s .recorded .answer) ++
-    cond (is-final (record-call l i s .recorded .answer)) [] (listing l (record-call l i s .recorded .next) (record-call l i s .session))
+    line i (getD l i 0) (record-call l i s .answer) ++
+    cond (is-final (record-call l i s .answer)) [] (listing l (record-call l i s .next) (record-call l i s .session))
 unfolding listing lines
 listing-step l i s h =
     let e : length l - i ≡ suc (length l - suc i) = omega arith in
     let t = record-call l i s in
     rw (e, lt-ltb i (length l) h)
-    (ap (λ (x : List ℕ). line i (getD l i 0) (t .recorded .answer) ++ x)
-    (unless (is-final (t .recorded .answer)) (λ f. let m = next-after l i s f in same (length l - suc i) (length l - t .recorded .next) l (t .recorded .next) (t .session) (omega arith) (omega arith))))
+    (ap (λ (x : List ℕ). line i (getD l i 0) (t .answer) ++ x)
+    (unless (is-final (t .answer)) (λ f. let m = next-after l i s f in same (length l - suc i) (length l - t .next) l (t .next) (t .session) (omega arith) (omega arith))))
 
 -- ---- the text so far
 
@@ -113,7 +95,7 @@ pub record Going (l : List ℕ) (i₀ : ℕ) (s₀ : Session) (before out : List
 
 pub going-start : (l : List ℕ) (i : ℕ) (s : Session) (out : List ℕ) → Reached s → Going l i s out out 0 i s
 going-start l i s out h =
-    record { written = none; is = refl; reached = h; within = omega arith; rest = refl; same-length = refl; few = omega arith }
+    record { written = nothing; is = refl; reached = h; within = omega arith; rest = refl; same-length = refl; few = omega arith }
 
 -- one line more
 module _ (l : List ℕ) (i₀ : ℕ) (s₀ : Session) (before out out′ : List ℕ) (used i end : ℕ) (s : Session) (t : Taken) where
@@ -121,38 +103,38 @@ module _ (l : List ℕ) (i₀ : ℕ) (s₀ : Session) (before out out′ : List 
       (g : Going l i₀ s₀ before out used i s)
       (h : i < length l)
       (e : t ≡ record-call l i s)
-      (p : Put out out′ used (line i (getD l i 0) (t .recorded .answer)) end)
+      (p : Put out out′ used (line i (getD l i 0) (t .answer)) end)
       (r : used + room ≤ length out)
     where
-      text : take end out′ ++ cond (is-final (t .recorded .answer)) [] (listing l (t .recorded .next) (t .session)) ≡ listing l i₀ s₀
+      text : take end out′ ++ cond (is-final (t .answer)) [] (listing l (t .next) (t .session)) ≡ listing l i₀ s₀
       text =
-          ap (λ (x : List ℕ). x ++ cond (is-final (t .recorded .answer)) [] (listing l (t .recorded .next) (t .session))) (p .is)
-          ∙ append-assoc (take used out) (line i (getD l i 0) (t .recorded .answer)) (cond (is-final (t .recorded .answer)) [] (listing l (t .recorded .next) (t .session)))
+          ap (λ (x : List ℕ). x ++ cond (is-final (t .answer)) [] (listing l (t .next) (t .session))) (p .is)
+          ∙ append-assoc (take used out) (line i (getD l i 0) (t .answer)) (cond (is-final (t .answer)) [] (listing l (t .next) (t .session)))
           ∙ ap (λ (x : List ℕ). take used out ++ x)
-          (ap (λ (x : Taken). line i (getD l i 0) (x .recorded .answer) ++ cond (is-final (x .recorded .answer)) [] (listing l (x .recorded .next) (x .session))) e ∙ sym (listing-step l i s h))
+          (ap (λ (x : Taken). line i (getD l i 0) (x .answer) ++ cond (is-final (x .answer)) [] (listing l (x .next) (x .session))) e ∙ sym (listing-step l i s h))
           ∙ g .is
 
-      longer : Written l (length before) i₀ s₀ (take end out′) (t .recorded .next) (t .session)
+      longer : Written l (length before) i₀ s₀ (take end out′) (t .next) (t .session)
       longer =
-          subst (λ (x : List ℕ). Written l (length before) i₀ s₀ x (t .recorded .next) (t .session)) (sym (p .is))
-          (subst (λ (x : Taken). Written l (length before) i₀ s₀ (take used out ++ line i (getD l i 0) (x .recorded .answer)) (x .recorded .next) (x .session)) (sym e)
+          subst (λ (x : List ℕ). Written l (length before) i₀ s₀ x (t .next) (t .session)) (sym (p .is))
+          (subst (λ (x : Taken). Written l (length before) i₀ s₀ (take used out ++ line i (getD l i 0) (x .answer)) (x .next) (x .session)) (sym e)
           (more (g .written) h (omega (arith, r, g .same-length, length-take-le used out (g .within)))))
 
       fits : end ≤ length out′
       fits =
-          let text = line i (getD l i 0) (t .recorded .answer) in
+          let text = line i (getD l i 0) (t .answer) in
           let a = sym (length-take end out′) ∙ ap length (p .is) ∙ length-append (take used out) text ∙ ap (λ (n : ℕ). n + length text) (length-take-le used out (g .within)) in
           omega (arith, a, p .ends)
 
       past : drop end out′ ≡ drop end before
-      past = p .rest ∙ rw (p .ends) (dropped out before used (length (line i (getD l i 0) (t .recorded .answer))) (g .rest))
+      past = p .rest ∙ rw (p .ends) (dropped out before used (length (line i (getD l i 0) (t .answer))) (g .rest))
 
-      pub going-on : is-final (t .recorded .answer) ≡ false → Reached (t .session) → end ≤ used + room → Going l i₀ s₀ before out′ end (t .recorded .next) (t .session)
+      pub going-on : is-final (t .answer) ≡ false → Reached (t .session) → end ≤ used + room → Going l i₀ s₀ before out′ end (t .next) (t .session)
       going-on f w short =
           let m = next-is l i s t e f in
           record { written = longer; is = rw f at text; reached = w; within = fits; rest = past; same-length = p .same ∙ g .same-length; few = omega (arith, g .few) }
 
-      pub going-stop : is-final (t .recorded .answer) ≡ true → Reached (t .session) → PieceOf l i₀ s₀ before out′ (record { used = end; next = t .recorded .next; session = t .session; ended = true })
+      pub going-stop : is-final (t .answer) ≡ true → Reached (t .session) → PieceOf l i₀ s₀ before out′ (record { used = end; next = t .next; session = t .session; ended = true })
       going-stop f w =
           record { written = longer; is = rw f at text; left = λ z. absurd (subst T z tt); full = λ z. absurd (subst T z tt); few = λ z. absurd (subst T z tt); reached = w; within = fits; rest = past; same = p .same ∙ g .same-length }
 

@@ -5,6 +5,7 @@ use mathlib.Core.List.{List, [], _++_}
 use Prim.Native.Nat.{ℕ, zero, suc, _+_, _-_, _*_, _≤_, _<_}
 use lib.Dec.{ltb, eqb}
 use lib.ListN.{length, take, drop, getD}
+use Rattle.exact.specs.Refusals.{refuses-8}
 use Rattle.encounter.specs.declared.state.Session.{Session}
 use Rattle.encounter.specs.declared.state.Answer.{Answer}
 use Rattle.encounter.specs.Session.{empty, refused}
@@ -21,37 +22,31 @@ unfoldable pub lines : ℕ → List ℕ → ℕ → Session → List ℕ
 lines zero l i s = []
 lines (suc k) l i s =
     cond (ltb i (length l))
-    (line i (getD l i 0) (record-call l i s .recorded .answer) ++
-    cond (is-final (record-call l i s .recorded .answer)) [] (lines k l (record-call l i s .recorded .next) (record-call l i s .session)))
+    (line i (getD l i 0) (record-call l i s .answer) ++
+    cond (is-final (record-call l i s .answer)) [] (lines k l (record-call l i s .next) (record-call l i s .session)))
     []
 
 -- every record has its kind byte, so there are no more records than bytes
 unfoldable pub listing : List ℕ → ℕ → Session → List ℕ
 listing l i s = lines (length l - i) l i s
 
--- 8: "script file longer than 65,536 bytes (program only, before all else)"; "Refusal 8 prints `0 refused 8` only."
-abbrev pub largest-script : ℕ
-largest-script = 65536
-
-abbrev pub is-too-long : List ℕ → Bool
-is-too-long l = ltb largest-script (length l)
-
+-- "Refusal 8 prints `0 refused 8` only."
 abbrev pub too-long : Answer
 too-long = refused 8
 
 -- what the program prints
 unfoldable pub printed : List ℕ → List ℕ
-printed l = cond (is-too-long l) (line 0 0 too-long) (listing l 0 empty)
+printed l = cond (refuses-8 l) (line 0 0 too-long) (listing l 0 empty)
 
 -- text is that of some records from position i on, in order, each of whose lines had room among n bytes; then comes position j, with session t
 pub data Written (l : List ℕ) (n i : ℕ) (s : Session) : List ℕ → ℕ → Session → Type 0 where
-  none : Written l n i s [] i s
+  nothing : Written l n i s [] i s
   more :
       {text : List ℕ} {j : ℕ} {t : Session} →
       Written l n i s text j t →
       j < length l →
       length text + room ≤ n →
-      Written l n i s (text ++ line j (getD l j 0) (record-call l j t .recorded .answer)) (record-call l j t .recorded .next) (record-call l j t .session)
+      Written l n i s (text ++ line j (getD l j 0) (record-call l j t .answer)) (record-call l j t .next) (record-call l j t .session)
 
 -- A piece of the listing from position i on: the first bytes of the buffer are the text of its records, and these bytes with the listing from the next
 -- position on are the listing. Each line had `room` bytes, and the piece ends before the listing does only where fewer are left; then it has used at most

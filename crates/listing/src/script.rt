@@ -11,9 +11,6 @@ use encounter::state::Class;
 use encounter::state::Session;
 use exact::Scaled;
 
-// The bytes of the longest script that is run.
-pub const LARGEST_SCRIPT: usize = 65536;
-
 // The bytes of the buffer that are used, the next position and the session there, and whether the listing is at its end.
 pub struct Piece {
     pub used: usize,
@@ -51,20 +48,19 @@ pub fn put_lines(script: &[u8], at: usize, s: Session, out: &mut [u8]) -> Piece
         }
         let kind = script[i];
         let r = take_record(t, script, i);
-        let recorded = r.recorded;
-        let answer = recorded.answer;
+        let answer = r.answer;
         let session = r.session;
         used = put_line(out, used, i, kind, answer);
         if is_final(answer) {
             return Piece {
                 used,
-                next: recorded.next,
+                next: r.next,
                 session,
                 ended: true,
             };
         }
         t = session;
-        i = recorded.next;
+        i = r.next;
     }
     Piece {
         used,

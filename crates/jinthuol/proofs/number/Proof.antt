@@ -1,4 +1,4 @@
-use Rattle.jinthuol.specs.Reply.{class-number}
+use Rattle.jinthuol.specs.Answer.{class-number}
 use borrow.Author.Needs.{needs}
 use Rattle.jinthuol.proofs.number.Statement.{statement}
 use Rattle.jinthuol.proofs.number.Tie as tie

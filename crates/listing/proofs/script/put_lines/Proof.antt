@@ -42,22 +42,22 @@ same-length-2 c = search needs
 
 returns-2 : tie.Need-returns-2 Inv-loop μ-loop
 returns-2 c =
-    let r = c .before .before .before .before .before .before .before .before .before .take-record in
-    let g = c .before .before .before .before .before .before .before .before .before .before .before .before .before .loop .inv in
-    let p = c .before .before .before .before .put-line .ensures .written (omega (arith, g .within, c .before .before .before .before .before .before .before .before .before .before .before .if1 .left)) in
-    going-stop _ _ _ _ _ _ _ _ _ _ (r .result) g (c .before .before .before .before .before .before .before .before .before .before .before .before .loop-test .taken) (r .ensures .0) p (omega (arith, g .within, c .before .before .before .before .before .before .before .before .before .before .before .if1 .left)) (sym (c .before .is-final .ensures) ∙ c .if2 .taken) (r .ensures .1)
+    let r = c .before .before .before .before .before .before .before .before .take-record in
+    let g = c .before .before .before .before .before .before .before .before .before .before .before .before .loop .inv in
+    let p = c .before .before .before .before .put-line .ensures .written (omega (arith, g .within, c .before .before .before .before .before .before .before .before .before .before .if1 .left)) in
+    going-stop _ _ _ _ _ _ _ _ _ _ (r .result) g (c .before .before .before .before .before .before .before .before .before .before .before .loop-test .taken) (r .ensures .0) p (omega (arith, g .within, c .before .before .before .before .before .before .before .before .before .before .if1 .left)) (sym (c .before .is-final .ensures) ∙ c .if2 .taken) (r .ensures .1)
 
 loop-less : tie.Need-loop-less Inv-loop μ-loop
 loop-less c =
-    let r = c .before .before .before .before .before .before .before .before .before .take-record in
-    omega (arith, c .before .before .before .before .before .before .before .before .before .before .before .before .loop-test .taken, next-is _ _ _ (r .result) (r .ensures .0) (sym (c .before .is-final .ensures) ∙ c .if2 .left))
+    let r = c .before .before .before .before .before .before .before .before .take-record in
+    omega (arith, c .before .before .before .before .before .before .before .before .before .before .before .loop-test .taken, next-is _ _ _ (r .result) (r .ensures .0) (sym (c .before .is-final .ensures) ∙ c .if2 .left))
 
 loop-again : tie.Need-loop-again Inv-loop μ-loop
 loop-again c =
-    let r = c .before .before .before .before .before .before .before .before .before .take-record in
-    let g = c .before .before .before .before .before .before .before .before .before .before .before .before .before .loop .inv in
-    let p = c .before .before .before .before .put-line .ensures .written (omega (arith, g .within, c .before .before .before .before .before .before .before .before .before .before .before .if1 .left)) in
-    going-on _ _ _ _ _ _ _ _ _ _ (r .result) g (c .before .before .before .before .before .before .before .before .before .before .before .before .loop-test .taken) (r .ensures .0) p (omega (arith, g .within, c .before .before .before .before .before .before .before .before .before .before .before .if1 .left)) (sym (c .before .is-final .ensures) ∙ c .if2 .left) (r .ensures .1) (c .before .before .before .before .put-line .ensures .short)
+    let r = c .before .before .before .before .before .before .before .before .take-record in
+    let g = c .before .before .before .before .before .before .before .before .before .before .before .before .loop .inv in
+    let p = c .before .before .before .before .put-line .ensures .written (omega (arith, g .within, c .before .before .before .before .before .before .before .before .before .before .if1 .left)) in
+    going-on _ _ _ _ _ _ _ _ _ _ (r .result) g (c .before .before .before .before .before .before .before .before .before .before .before .loop-test .taken) (r .ensures .0) p (omega (arith, g .within, c .before .before .before .before .before .before .before .before .before .before .if1 .left)) (sym (c .before .is-final .ensures) ∙ c .if2 .left) (r .ensures .1) (c .before .before .before .before .put-line .ensures .short)
 
 same-length-3 : tie.Need-same-length-3 Inv-loop μ-loop
 same-length-3 c = search needs
