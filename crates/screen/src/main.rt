@@ -1,48 +1,140 @@
 // screen: runs a script from standard input and writes what document 01 says of it.
+ghost use Prim.Native.Nat.{_≤_, _<_};
+ghost use lib.ListN.{length};
+ghost use Rattle.encounter.specs.Calls.{Reached};
+ghost use Rattle.listing.specs.Listing.{printed};
+ghost use Rattle.screen.specs.Printing.{NextOf, Handed};
+ghost use Rattle.screen.specs.Reading.{longest, ReadInto, ScriptIn};
 use encounter::state::Session;
+use libc::EINTR;
+use libc::STDERR_FILENO;
+use libc::STDIN_FILENO;
+use libc::STDOUT_FILENO;
+use listing::script::Piece;
 use listing::script::put_lines;
 use listing::script::put_too_long;
 
-// Writes the first bytes of the buffer, and answers whether all of them were written.
-fn write_out(out: &[u8; 65536], used: usize) -> bool {
-    let all: &[u8] = out;
-    if used <= all.len() {
-        return io::write_all(1, &all[..used]);
+// The bytes of the longest script.
+const LONGEST: usize = 65536;
+
+// The bytes kept for the script: one more, so that a script that fills them is too long.
+const KEPT: usize = LONGEST + 1;
+
+// The bytes of a piece of the listing.
+const PIECE: usize = 65536;
+
+// How many times a read that is interrupted is tried.
+const TRIES: u32 = 1000000;
+
+// What reading came to: how many bytes were put at the buffer's start, or a failure.
+enum Input {
+    Bytes(usize),
+    Failed,
+}
+
+// What writing came to: how many bytes were handed over in all, or a failure.
+enum Output {
+    Written(usize),
+    Failed,
+}
+
+// One read of standard input, of no bytes where that is at its end. An interrupted read is tried again; where every try is interrupted, it failed.
+fn read_some(buf: &mut [u8]) -> Input
+    ensures { λ r. ⌜ ReadInto (now (buf .exit)) r ⌝ }
+{
+    let mut tries = TRIES;
+    while 0 < tries {
+        let got = libc::read(STDIN_FILENO, buf);
+        if 0 <= got {
+            return Input::Bytes(io::count(got, buf));
+        }
+        if os::errno() != EINTR {
+            return Input::Failed;
+        }
+        tries -= 1;
     }
-    false
+    Input::Failed
 }
 
-fn refuse_long() {
-    let mut out = [0u8; 65536];
-    let used = put_too_long(&mut out);
-    write_out(&out, used);
-}
-
-// Writes the listing piece by piece; ends where a piece could not be written.
-fn run(script: &[u8]) {
-    let mut out = [0u8; 65536];
-    let mut session = Session::empty();
-    let mut at: usize = 0;
-    while at < script.len() {
-        let piece = put_lines(script, at, session, &mut out);
-        let used = piece.used;
-        if !write_out(&out, used) {
+// Reads the script up to its end, or up to the buffer's.
+fn read_script(buf: &mut [u8]) -> Input
+    requires { ⌜ longest < length (now buf) ⌝ }
+    ensures { λ r. ⌜ ScriptIn (now (buf .exit)) r ⌝ }
+{
+    let mut done: usize = 0;
+    while done < buf.len() {
+        let Input::Bytes(n) = read_some(&mut buf[done..]) else {
+            return Input::Failed;
+        };
+        if n == 0 {
             break;
         }
+        done += n;
+    }
+    Input::Bytes(done)
+}
+
+// A piece of what is left to print from a position on: the line of refusal 8 where the script is too long, and otherwise lines of its listing.
+fn put_piece(script: &[u8], at: usize, s: Session, out: &mut [u8; PIECE]) -> Piece
+    requires { ⌜ Reached s ⌝ }
+    ensures { λ p. ⌜ NextOf (now (script .entry)) at s (now (out .exit)) p ⌝ }
+{
+    if LONGEST < script.len() {
+        let line = put_too_long(out);
+        return Piece {
+            used: line,
+            next: at,
+            session: s,
+            ended: true,
+        };
+    }
+    put_lines(script, at, s, out)
+}
+
+// Writes the first bytes of the buffer, and answers whether all of them were written.
+fn write_out(out: &[u8; PIECE], used: usize) -> bool
+    requires { ⌜ used ≤ length (now out) ⌝ }
+{
+    let all: &[u8] = out;
+    io::write_all(STDOUT_FILENO, &all[..used])
+}
+
+// Writes what is printed for the script, piece by piece, up to a piece that could not be written.
+fn run(script: &[u8]) -> Output
+    ensures { λ r. ⌜ Handed (printed (now (script .entry))) r ⌝ }
+{
+    let mut out = [0u8; PIECE];
+    let mut session = Session::empty();
+    let mut at: usize = 0;
+    let mut done: usize = 0;
+    loop {
+        let piece = put_piece(script, at, session, &mut out);
+        let used = piece.used;
+        if !write_out(&out, used) {
+            return Output::Failed;
+        }
+        done += used;
         if piece.ended {
-            break;
+            return Output::Written(done);
         }
         session = piece.session;
         at = piece.next;
     }
 }
 
+// Writes a line to standard error; whether that succeeds is not looked at.
+fn say(line: &[u8]) {
+    io::write_all(STDERR_FILENO, line);
+}
+
 fn main() {
-    let mut script = [0u8; 65537];
-    let n = io::read_full(0, &mut script);
-    if 65536 < n {
-        refuse_long();
+    let mut script = [0u8; KEPT];
+    let Input::Bytes(n) = read_script(&mut script) else {
+        say(b"screen: the script could not be read\n");
         return;
-    }
-    run(&script[..n]);
+    };
+    let Output::Written(_) = run(&script[..n]) else {
+        say(b"screen: the listing could not be written\n");
+        return;
+    };
 }
