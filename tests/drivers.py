@@ -80,7 +80,7 @@ fn long(b: &[u8; 18], at: usize) -> u64 {
     (word(b, at) as u64) + (word(b, at + 4) as u64) * 4294967296
 }
 
-fn scaled(b: &[u8; 18], at: usize) -> Scaled {
+fn operand(b: &[u8; 18], at: usize) -> Scaled {
     Scaled { m: word(b, at), e: signed(word(b, at + 4)) }
 }
 
@@ -102,16 +102,16 @@ fn over_by(up: bool, a: Scaled, k: u32) -> Scaled {
 fn answer(b: &[u8; 18]) -> Scaled {
     let up = b[1] == 1;
     match b[0] {
-        0 => arithmetic::product(up, scaled(b, 2), scaled(b, 10)),
-        1 => arithmetic::sum(up, scaled(b, 2), scaled(b, 10)),
-        2 => over(up, scaled(b, 2), word(b, 10)),
-        3 => arithmetic::quotient(up, scaled(b, 2), scaled(b, 10)),
+        0 => arithmetic::product(up, operand(b, 2), operand(b, 10)),
+        1 => arithmetic::sum(up, operand(b, 2), operand(b, 10)),
+        2 => over(up, operand(b, 2), word(b, 10)),
+        3 => arithmetic::quotient(up, operand(b, 2), operand(b, 10)),
         4 => arithmetic::ratio(up, long(b, 2), long(b, 10)),
-        5 => arithmetic::halved(scaled(b, 2)),
-        6 => arithmetic::doubled(scaled(b, 2)),
-        7 => truth(arithmetic::at_most(scaled(b, 2), scaled(b, 10))),
+        5 => arithmetic::halved(operand(b, 2)),
+        6 => arithmetic::doubled(operand(b, 2)),
+        7 => truth(arithmetic::at_most(operand(b, 2), operand(b, 10))),
         8 => Scaled::whole(word(b, 2)),
-        _ => over_by(up, scaled(b, 2), word(b, 10)),
+        _ => over_by(up, operand(b, 2), word(b, 10)),
     }
 }
 
