@@ -17,77 +17,20 @@ from fractions import Fraction
 from typing import NamedTuple
 
 sys.dont_write_bytecode = True
+import drawn
+import drivers
+import edges
 import scaled
 import scratch
+from reference import LARGEST, LARGEST_N
 from scaled import LEAST, LIMIT, ZERO, Scaled
 
-SEED = 1
-# The cases of one run. The interpreter stops a run at 10,000,000 steps, and a case takes about 1,000.
-BATCH = 5000
+# The cases of one run; the interpreter takes about 1,000 steps for one.
+BATCH = scratch.MOST_STEPS // 2000
 # How many differing cases are printed.
 SHOWN = 5
-
-# Reads records of 18 bytes: the kind, the direction (1 for U), then two operands of 8 bytes,
-# little-endian: m and e of a scaled number, or a whole number. Writes m and e of the answer as 16
-# hexadecimal digits and a line end; a negative e is two's complement. The answer of at_most is m = 1
-# or m = 0, with e = 0.
-DRIVER = """\
-mod words;
-use crate::words::digits;
-use crate::words::signed;
-use crate::words::unsigned;
-use crate::words::word;
-use encounter::arithmetic;
-use encounter::wide::narrowed;
-use encounter::wide::over;
-use encounter::wide::over_by;
-use encounter::wide::reciprocal_of;
-use encounter::wide::widen;
-use exact::Scaled;
-
-fn long(b: &[u8; 18], at: usize) -> u64 {
-    (word(b, at) as u64) + (word(b, at + 4) as u64) * 4294967296
-}
-
-fn scaled(b: &[u8; 18], at: usize) -> Scaled {
-    Scaled { m: word(b, at), e: signed(word(b, at + 4)) }
-}
-
-fn truth(t: bool) -> Scaled {
-    if t {
-        return Scaled { m: 1, e: 0 };
-    }
-    Scaled { m: 0, e: 0 }
-}
-
-fn answer(b: &[u8; 18]) -> Scaled {
-    let up = b[1] == 1;
-    match b[0] {
-        0 => arithmetic::product(up, scaled(b, 2), scaled(b, 10)),
-        1 => arithmetic::sum(up, scaled(b, 2), scaled(b, 10)),
-        2 => narrowed(over(up, widen(scaled(b, 2)), word(b, 10) as u64)),
-        3 => arithmetic::quotient(up, scaled(b, 2), scaled(b, 10)),
-        4 => arithmetic::ratio(up, long(b, 2), long(b, 10)),
-        5 => arithmetic::halved(scaled(b, 2)),
-        6 => arithmetic::doubled(scaled(b, 2)),
-        7 => truth(arithmetic::at_most(scaled(b, 2), scaled(b, 10))),
-        8 => Scaled::whole(word(b, 2)),
-        _ => narrowed(over_by(up, widen(scaled(b, 2)), reciprocal_of(word(b, 10) as u64))),
-    }
-}
-
-fn main() {
-    let mut record = [0u8; 18];
-    let mut line = [10u8; 17];
-    while io::read_full(0, &mut record) == 18 {
-        let r = answer(&record);
-        digits(&mut line, 0, r.m);
-        digits(&mut line, 8, unsigned(r.e));
-        io::write_all(1, &line);
-    }
-}
-"""
-LINE = 17
+# The numbers of a line.
+FIELDS = [("m", False), ("e", True)]
 
 
 class Kind(NamedTuple):
@@ -146,7 +89,7 @@ N_END = 1 << 48
 # The largest divisor with a reciprocal.
 K_END = 1 << 25
 # Document 01's fractions are of whole numbers up to this.
-N_MOST = 2 * 10**14
+N_MOST = 2 * LARGEST**2
 
 
 class Draw:
@@ -156,9 +99,7 @@ class Draw:
         self.random = random.Random(seed)
 
     def whole(self, most):
-        """From 1 to most, each number of bits about as likely as another."""
-        bits = self.random.randint(1, most.bit_length())
-        return min(self.random.randrange(1 << (bits - 1), 1 << bits), most)
+        return drawn.whole(self.random, most)
 
     def m(self):
         return self.random.randrange(LEAST, LIMIT)
@@ -245,14 +186,14 @@ def of_divisors(draw):
         for m in draw.ms():
             yield from both("over", Scaled(m, draw.e()), k)
     # The divisors (n+1)(n+2) of the rounded steps.
-    for n in range(4097):
+    for n in range(LARGEST_N + 1):
         yield from both("over", draw.number(), (n + 1) * (n + 2))
     for _ in range(1000):
         yield from both("over", draw.number(), draw.whole(LIMIT - 1))
     # By a reciprocal: the divisors n+2, and others to the largest.
-    for k in [*range(1, 4099), *near_powers(K_END), K_END]:
+    for k in [*range(1, LARGEST_N + 3), *near_powers(K_END), K_END]:
         yield from both("over_by", draw.number(), k)
-    for m, k in itertools.product(draw.ms(), [1, 2, 3, 4097, 4098, K_END - 1, K_END]):
+    for m, k in itertools.product(draw.ms(), [1, 2, 3, LARGEST_N + 1, LARGEST_N + 2, K_END - 1, K_END]):
         yield from both("over_by", Scaled(m, draw.e()), k)
     for _ in range(1000):
         yield from both("over_by", draw.number(), draw.whole(K_END))
@@ -267,23 +208,14 @@ def of_exact_quotients(draw):
         yield from both("quotient", a, Scaled(scaled.whole(k).m, draw.e()))
 
 
-# Document 01, "Encounters on each edge": n, d, D(n/d) and U(n/d).
-DOCUMENT = [
-    (1, 3, Scaled(2863311530, -33), Scaled(2863311531, -33)),
-    (1, 48, Scaled(2863311530, -37), Scaled(2863311531, -37)),
-    ((1 << 40) + 1, 1 << 40, scaled.ONE, Scaled(LEAST + 1, -31)),
-    (0, 1, ZERO, ZERO),
-]
-
-
 def of_document(draw):
-    for n, d, lower, upper in DOCUMENT:
+    for n, d, lower, upper in edges.RATIOS:
         assert (scaled.ratio(False, n, d), scaled.ratio(True, n, d)) == (lower, upper)
         yield from both("ratio", n, d)
 
 
 def of_ratios(draw):
-    ends = near_powers(N_END) + [10**14, N_MOST - 1, N_MOST]
+    ends = near_powers(N_END) + [LARGEST**2, N_MOST - 1, N_MOST]
     for n in ends:
         for x, y in (0, n), (n, n), (n, 1), (1, n), (n, 3), (n - 1, n), (n, N_MOST), (N_MOST, n):
             yield from both("ratio", x, y)
@@ -337,40 +269,20 @@ def record(case):
     return bytes([NUMBERS[case.kind], case.up]) + packed(case.x) + packed(case.y)
 
 
-def line(r):
-    return scratch.digits(r.m) + scratch.digits(r.e) + "\n"
-
-
-def read_line(text):
-    return Scaled(int(text[:8], 16), scratch.signed(int(text[8:16], 16)))
-
-
 def shown(x):
     return str(tuple(x)) if isinstance(x, Scaled) else str(x)
 
 
-def written(answer, way):
-    """What was written for a case."""
-    if way.found == "":
-        return "nothing, " + way.said
-    return shown(read_line(line(answer)[: way.at % LINE] + way.found))
-
-
 def run(folder, cases, answers):
     """Runs the cases. Gives the index of the first one that differs, with a text on it, or None."""
-    ways = scratch.run(folder, b"".join(map(record, cases)), "".join(map(line, answers)))
+    lines = list(map(drivers.line, answers))
+    ways = scratch.run(folder, b"".join(map(record, cases)), "".join(lines))
     if not ways:
         return None
-    first = min(way.at // LINE for way in ways)
-    if first >= len(cases):
-        sys.exit("operations: every line agrees, and yet: %s" % ways)
-    case, answer = cases[first], answers[first]
+    first, text = scratch.report(ways, FIELDS, lines)
+    case = cases[first]
     direction = [" D", " U"][case.up] if KINDS[case.kind].directed else ""
-    lines = ["%s%s %s %s: expected %s" % (case.kind, direction, shown(case.x), shown(case.y), shown(answer))]
-    for way in ways:
-        if way.at // LINE == first:
-            lines.append("  %s: %s" % (way.name, written(answer, way)))
-    return first, "\n".join(lines)
+    return first, "%s%s %s %s\n%s" % (case.kind, direction, shown(case.x), shown(case.y), text)
 
 
 def differences(folder, cases, answers):
@@ -388,13 +300,13 @@ def differences(folder, cases, answers):
 
 
 def main():
-    words = scratch.arguments("Compares the arithmetic of crate encounter with scaled.py.", SEED)
-    print("operations: seed %d" % words.seed)
-    cases = all_cases(words.seed)
+    options = scratch.arguments("Compares the arithmetic of crate encounter with scaled.py.")
+    print("operations: seed %d" % options.seed)
+    cases = all_cases(options.seed)
     answers = list(map(expected, cases))
     with tempfile.TemporaryDirectory() as name:
         folder = pathlib.Path(name)
-        scratch.repository(words.root, folder, DRIVER, private=["arithmetic", "wide"])
+        scratch.repository(options.root, folder, drivers.OPERATIONS)
         found = list(itertools.islice(differences(folder, cases, answers), SHOWN))
     if found:
         print("\n".join(found))

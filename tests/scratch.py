@@ -1,11 +1,10 @@
 """Runs a driver program over the crates' code without proof.
 
-The code is copied to a temporary repository, a program that calls it is added there, and `rt try` runs that
-on the interpreter, compiled at -O0 and at -O3, and compiled with the compiler's assumptions checked. The program
-reads a record for each case and writes a line, and `rt try` compares the lines with those that are expected.
+The code is copied to a temporary repository, a program of drivers.py that calls it is added there, and `rt try` runs
+that on the interpreter, compiled at -O0 and at -O3, and compiled with the compiler's assumptions checked. `rt try`
+compares the program's lines with those that are expected.
 """
 
-import argparse
 import pathlib
 import re
 import shutil
@@ -13,72 +12,22 @@ import subprocess
 import sys
 from typing import NamedTuple
 
-# The driver's module `words`: numbers in records (little-endian) and in lines (hexadecimal digits, a negative
-# number in two's complement).
-WORDS = """\
-pub fn word(b: &[u8], at: usize) -> u32 {
-    (b[at] as u32) + (b[at + 1] as u32) * 256 + (b[at + 2] as u32) * 65536 + (b[at + 3] as u32) * 16777216
-}
-
-pub fn signed(x: u32) -> i32 {
-    if x < 2147483648 {
-        return x as i32;
-    }
-    -1 - ((4294967295 - x) as i32)
-}
-
-pub fn unsigned(e: i32) -> u32 {
-    if e < 0 {
-        return 4294967295 - ((-1 - e) as u32);
-    }
-    e as u32
-}
-
-pub fn digits(line: &mut [u8], at: usize, x: u32) {
-    let mut rest = x;
-    let mut i: usize = 8;
-    while 0 < i {
-        i -= 1;
-        let d = (rest % 16) as u8;
-        if d < 10 {
-            line[at + i] = 48 + d;
-        } else {
-            line[at + i] = 87 + d;
-        }
-        rest = rest / 16;
-    }
-}
-"""
+import options
+from drivers import WIDTH, WORDS, line_length, number
 
 
-def digits(x):
-    """The digits that the driver writes for x."""
-    return "%08x" % (x % (1 << 32))
-
-
-def signed(x):
-    """The number in two's complement."""
-    return x - (1 << 32) if x >> 31 else x
-
-
-def arguments(description, seed):
-    parser = argparse.ArgumentParser(description=description)
-    here = pathlib.Path(__file__).resolve().parent.parent
-    parser.add_argument("--root", type=pathlib.Path, default=here, help="the repository to test")
-    parser.add_argument("--seed", type=int, default=seed, help="of the random cases")
+def arguments(description):
+    parser = options.parser(description)
+    parser.add_argument("--root", type=pathlib.Path, default=options.ROOT, help="the repository to test")
     return parser.parse_args()
 
 
-def repository(root, folder, program, private=()):
-    """Fills the folder: the crates' code, these private modules of `encounter` public, and the driver."""
+def repository(root, folder, program):
+    """Fills the folder: the crates' code, all modules of `encounter` public, and the driver."""
     for source in root.glob("crates/*/src"):
         shutil.copytree(source, folder / source.relative_to(root))
-    library = folder / "crates/encounter/src/lib.rt"
-    for module in private:
-        text, found = re.subn(f"^mod {module};$", f"pub mod {module};", library.read_text(), flags=re.M)
-        if found != 1:
-            sys.exit(f"crates/encounter/src/lib.rt has no line 'mod {module};'")
-        library.write_text(text)
+    for source in (folder / "crates/encounter/src").rglob("*.rt"):
+        source.write_text(re.sub(r"^mod ", "pub mod ", source.read_text(), flags=re.M))
     source = folder / "crates/driver/src"
     source.mkdir(parents=True)
     (source / "main.rt").write_text(program)
@@ -114,7 +63,8 @@ COMPILED = [
     "the native program at -O3",
     "the native program with LLVM's assumptions checked",
 ]
-# The interpreter stops at 10,000,000 steps.
+# The interpreter stops at this many steps.
+MOST_STEPS = 10_000_000
 STOPPED = "the run did not finish within "
 # A compiled program is stopped where it writes more bytes than this.
 MOST_WRITTEN = 1 << 20
@@ -146,3 +96,31 @@ def agrees(way, length):
     if way.name == INTERPRETER and way.said.startswith(STOPPED):
         return True
     return way.end == "ended" and way.at == length
+
+
+def report(ways, fields, lines):
+    """For ways that differ: the index of the first line that does, and a text on its first field that does.
+
+    A field has a name, and whether it is signed.
+    """
+    length = line_length(fields)
+    at = min(way.at for way in ways)
+    index, field = at // length, at % length // WIDTH
+    if index >= len(lines) or field >= len(fields):
+        sys.exit("every number agrees, and yet at byte %d: %s" % (at, ways))
+    name, signed = fields[field]
+    start = WIDTH * field
+
+    def value(line):
+        return number(line[start:][:WIDTH], signed)
+
+    said = ["  %s: expected %d" % (name, value(lines[index]))]
+    for way in ways:
+        if (way.at // length, way.at % length // WIDTH) != (index, field):
+            what = "differs later"
+        elif way.found == "":
+            what = "nothing, " + way.said
+        else:
+            what = str(value(lines[index][: way.at % length] + way.found))
+        said.append("  %s: %s" % (way.name, what))
+    return index, "\n".join(said)

@@ -1,0 +1,69 @@
+"""What is due of the ends and the class of an accepted read, by exact fractions."""
+
+import math
+
+import exact_series
+from encounters import PROBABILITY
+from exact_series import at_most, scaled_pair
+from reference import ALERT_FACTOR, EXPONENTIAL_CUT
+
+# The least cut of the exponential, the next one, and one where it has converged.
+CUTS = (EXPONENTIAL_CUT, EXPONENTIAL_CUT + 1, 2 * EXPONENTIAL_CUT)
+
+
+def enclosures(encounter, answers):
+    """Whether the exact quotients are between the ends of each accepted read, at its order and at later cuts.
+
+    Gives a pair for each read and each two cuts: whether it holds, and which it is.
+    """
+    orders = {N for answer in answers for N in (answer.N, answer.N + 1, answer.N + 60)}
+    sums = exact_series.series_at(encounter, orders)
+    exponentials = [exact_series.exponential(encounter, K) for K in CUTS]
+    for answer in answers:
+        for N in sorted(N for N in orders if N >= answer.N):
+            for K, exponential in zip(CUTS, exponentials):
+                ok = exact_series.between(answer.lower, sums[N], exponential, answer.upper)
+                yield ok, f"read at {answer.N}, series cut at {N}, exponential at {K}"
+
+
+def is_near(answer, bits, power=1):
+    """Whether the upper end is at most the lower end × (1 + 2^-bits)^power."""
+    n, d = scaled_pair(answer.lower)
+    return at_most(scaled_pair(answer.upper), (n * ((1 << bits) + 1) ** power, d << (bits * power)))
+
+
+def is_close(session):
+    """Demand 3: "the tail bound is at most 2^-31 of the lower sum"."""
+    n, d = scaled_pair(session.lower.sum)
+    return at_most(scaled_pair(session.tail_bound()), (n, d << 31))
+
+
+def within_closeness(answer):
+    """Demand 3: "the upper end is also at most the lower end × (1 + 2^-31)^(18N + 2,600)"."""
+    return is_near(answer, 31, 18 * answer.N + 2600)
+
+
+def reaches_alert(end):
+    """Whether the end × 10,000 is at least 1."""
+    return at_most((1, ALERT_FACTOR), scaled_pair(end))
+
+
+def has_its_class(answer):
+    return answer.alert == reaches_alert(answer.lower)
+
+
+def as_float(a):
+    return math.ldexp(*a)
+
+
+def of_probability(name, answer):
+    """Whether both ends are the documents' probability to its digits, where they print one for this name.
+
+    Gives a pair for each end: whether it holds, and what it is.
+    """
+    if name in PROBABILITY:
+        due = PROBABILITY[name]
+        digits = due.index("e") - due.index(".") - 1
+        for end in answer.lower, answer.upper:
+            found = as_float(end)
+            yield f"{found:.{digits}e}" == due, f"{found} is not {due}"

@@ -1,0 +1,261 @@
+"""The programs in Rattle that scratch.py runs over the crates' code, and the lines that they write.
+
+A program reads a record of bytes for each case and writes a line: numbers of eight hexadecimal digits each, a negative
+one in two's complement.
+"""
+
+WIDTH = 8
+
+
+def digits(x):
+    """What a program writes for x."""
+    return "%08x" % (x % (1 << 32))
+
+
+def line(numbers):
+    return "".join(map(digits, numbers)) + "\n"
+
+
+def line_length(fields):
+    return WIDTH * len(fields) + 1
+
+
+def number(text, signed):
+    """The number that the digits are for."""
+    x = int(text, 16)
+    return x - (1 << 32) if signed and x >> 31 else x
+
+
+# The module `words` of each program: numbers in records (little-endian) and in lines.
+WORDS = """\
+pub fn word(b: &[u8], at: usize) -> u32 {
+    (b[at] as u32) + (b[at + 1] as u32) * 256 + (b[at + 2] as u32) * 65536 + (b[at + 3] as u32) * 16777216
+}
+
+pub fn signed(x: u32) -> i32 {
+    if x < 2147483648 {
+        return x as i32;
+    }
+    -1 - ((4294967295 - x) as i32)
+}
+
+pub fn unsigned(e: i32) -> u32 {
+    if e < 0 {
+        return 4294967295 - ((-1 - e) as u32);
+    }
+    e as u32
+}
+
+pub fn put(line: &mut [u8], at: usize, x: u32) -> usize {
+    let mut rest = x;
+    let mut i: usize = 8;
+    while 0 < i {
+        i -= 1;
+        let d = (rest % 16) as u8;
+        if d < 10 {
+            line[at + i] = 48 + d;
+        } else {
+            line[at + i] = 87 + d;
+        }
+        rest = rest / 16;
+    }
+    at + 8
+}
+"""
+
+# The arithmetic. Reads records of 18 bytes: the kind, the direction (1 for U), then two operands of 8 bytes,
+# little-endian: m and e of a scaled number, or a whole number. Writes m and e of the answer. The answer of at_most is
+# m = 1 or m = 0, with e = 0.
+OPERATIONS = """\
+mod words;
+use crate::words::put;
+use crate::words::signed;
+use crate::words::unsigned;
+use crate::words::word;
+use encounter::arithmetic;
+use encounter::wide;
+use exact::Scaled;
+
+fn long(b: &[u8; 18], at: usize) -> u64 {
+    (word(b, at) as u64) + (word(b, at + 4) as u64) * 4294967296
+}
+
+fn operand(b: &[u8; 18], at: usize) -> Scaled {
+    Scaled { m: word(b, at), e: signed(word(b, at + 4)) }
+}
+
+fn truth(t: bool) -> Scaled {
+    if t {
+        return Scaled { m: 1, e: 0 };
+    }
+    Scaled { m: 0, e: 0 }
+}
+
+fn over(up: bool, a: Scaled, k: u32) -> Scaled {
+    wide::narrowed(wide::over(up, wide::widen(a), k as u64))
+}
+
+fn over_by(up: bool, a: Scaled, k: u32) -> Scaled {
+    wide::narrowed(wide::over_by(up, wide::widen(a), wide::reciprocal_of(k as u64)))
+}
+
+fn answer(b: &[u8; 18]) -> Scaled {
+    let up = b[1] == 1;
+    match b[0] {
+        0 => arithmetic::product(up, operand(b, 2), operand(b, 10)),
+        1 => arithmetic::sum(up, operand(b, 2), operand(b, 10)),
+        2 => over(up, operand(b, 2), word(b, 10)),
+        3 => arithmetic::quotient(up, operand(b, 2), operand(b, 10)),
+        4 => arithmetic::ratio(up, long(b, 2), long(b, 10)),
+        5 => arithmetic::halved(operand(b, 2)),
+        6 => arithmetic::doubled(operand(b, 2)),
+        7 => truth(arithmetic::at_most(operand(b, 2), operand(b, 10))),
+        8 => Scaled::whole(word(b, 2)),
+        _ => over_by(up, operand(b, 2), word(b, 10)),
+    }
+}
+
+fn main() {
+    let mut record = [0u8; 18];
+    let mut line = [10u8; 17];
+    while io::read_full(0, &mut record) == 18 {
+        let r = answer(&record);
+        let next = put(&mut line, 0, r.m);
+        put(&mut line, next, unsigned(r.e));
+        io::write_all(1, &line);
+    }
+}
+"""
+
+# The calls. Reads records of 21 bytes: the kind, then five words, little-endian. Kinds 1 and 4 are begin with its five
+# inputs, 2 and 5 are add with its count in the first word, 3 is read, and 0 stands for an empty session in place of the
+# one before. For kinds 4 and 5 the session is lent; else it goes by value. Writes every number of the answer, then of
+# the session, in the order of fields.py.
+SESSIONS = """\
+mod words;
+use crate::words::put;
+use crate::words::signed;
+use crate::words::unsigned;
+use crate::words::word;
+use encounter::calls;
+use encounter::state::Answer;
+use encounter::state::Called;
+use encounter::state::Class;
+use encounter::state::Session;
+use encounter::state::Side;
+use exact::Scaled;
+
+struct Encounter {
+    R: u32,
+    sx: u32,
+    sy: u32,
+    xm: i32,
+    ym: i32,
+}
+
+fn encounter_of(b: &[u8; 21]) -> Encounter {
+    Encounter { R: word(b, 1), sx: word(b, 5), sy: word(b, 9), xm: signed(word(b, 13)), ym: signed(word(b, 17)) }
+}
+
+fn held(s: Session) -> Encounter {
+    Encounter { R: s.R, sx: s.sx, sy: s.sy, xm: s.xm, ym: s.ym }
+}
+
+fn begin(s: Session, E: Encounter) -> Called {
+    calls::begin(s, E.R, E.sx, E.sy, E.xm, E.ym)
+}
+
+fn begin_lent(s: &mut Session, E: Encounter) -> Answer {
+    s.begin(E.R, E.sx, E.sy, E.xm, E.ym)
+}
+
+fn nothing() -> Answer {
+    let zero = Scaled::ZERO;
+    Answer { refusal: 0, N: 0, lower: zero, upper: zero, class: Class::Clear }
+}
+
+fn by_value(s: Session, b: &[u8; 21]) -> Called {
+    match b[0] {
+        1 => begin(s, encounter_of(b)),
+        2 => calls::add(s, word(b, 1) as u16),
+        3 => Called { answer: calls::read(s), session: s },
+        _ => Called { answer: nothing(), session: Session::empty() },
+    }
+}
+
+fn call(s: &mut Session, b: &[u8; 21]) -> Answer {
+    if b[0] == 4 {
+        return begin_lent(s, encounter_of(b));
+    }
+    if b[0] == 5 {
+        return s.add(word(b, 1) as u16);
+    }
+    let c = by_value(*s, b);
+    *s = c.session;
+    c.answer
+}
+
+fn put_scaled(line: &mut [u8], at: usize, a: Scaled) -> usize {
+    let next = put(line, at, a.m);
+    put(line, next, unsigned(a.e))
+}
+
+fn put_class(line: &mut [u8], at: usize, class: Class) -> usize {
+    match class {
+        Class::Clear => put(line, at, 0),
+        Class::Alert => put(line, at, 1),
+    }
+}
+
+fn put_answer(line: &mut [u8], at: usize, a: Answer) -> usize {
+    let mut next = put(line, at, a.refusal);
+    next = put(line, next, a.N);
+    next = put_scaled(line, next, a.lower);
+    next = put_scaled(line, next, a.upper);
+    put_class(line, next, a.class)
+}
+
+fn put_encounter(line: &mut [u8], at: usize, E: Encounter) -> usize {
+    let mut next = put(line, at, E.R);
+    next = put(line, next, E.sx);
+    next = put(line, next, E.sy);
+    next = put(line, next, unsigned(E.xm));
+    put(line, next, unsigned(E.ym))
+}
+
+fn put_side(line: &mut [u8], at: usize, s: Side) -> usize {
+    let mut next = put_scaled(line, at, s.letters.u);
+    next = put_scaled(line, next, s.letters.h);
+    next = put_scaled(line, next, s.letters.X);
+    next = put_scaled(line, next, s.letters.Y);
+    next = put_scaled(line, next, s.letters.t);
+    next = put_scaled(line, next, s.exponential);
+    next = put_scaled(line, next, s.terms.c);
+    next = put_scaled(line, next, s.terms.p);
+    next = put_scaled(line, next, s.terms.v);
+    next = put_scaled(line, next, s.terms.y);
+    put_scaled(line, next, s.terms.sum)
+}
+
+fn put_session(line: &mut [u8], at: usize, s: Session) -> usize {
+    let mut next = put_encounter(line, at, held(s));
+    next = put(line, next, s.N);
+    next = put_side(line, next, s.lower);
+    next = put_side(line, next, s.upper);
+    next = put_scaled(line, next, s.r256);
+    next = put_scaled(line, next, s.M);
+    put_scaled(line, next, s.d)
+}
+
+fn main() {
+    let mut record = [0u8; 21];
+    let mut line = [10u8; 505];
+    let mut s = Session::empty();
+    while io::read_full(0, &mut record) == 21 {
+        let answer = call(&mut s, &record);
+        let next = put_answer(&mut line, 0, answer);
+        put_session(&mut line, next, s);
+        io::write_all(1, &line);
+    }
+}
+"""

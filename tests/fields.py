@@ -1,0 +1,42 @@
+"""Every number of an answer and of a session, with its name."""
+
+SIDE = ["u", "h", "X", "Y", "t", "exponential", "c", "p", "v", "y", "sum"]
+INPUTS = ["R", "sx", "sy", "xm", "ym"]
+
+
+def scaled_fields(names):
+    return [(f"{name}.{part}", part == "e") for name in names for part in "me"]
+
+
+# Each number's name, and whether it is signed.
+ANSWER = [
+    ("answer.refusal", False),
+    ("answer.N", False),
+    *scaled_fields(["answer.lower", "answer.upper"]),
+    ("answer.class", False),
+]
+SESSION = [
+    *[(name, name.endswith("m")) for name in INPUTS],
+    ("N", False),
+    *scaled_fields(f"{side}.{name}" for side in ("lower", "upper") for name in SIDE),
+    *scaled_fields(["r256", "M", "d"]),
+]
+FIELDS = ANSWER + SESSION
+
+
+def side_numbers(side):
+    return [number for name in SIDE for number in getattr(side, name)]
+
+
+def answer_numbers(answer):
+    return [answer.refusal, answer.N, *answer.lower, *answer.upper, int(answer.alert)]
+
+
+def session_numbers(session):
+    return [
+        *(getattr(session, name) for name in INPUTS),
+        session.N,
+        *side_numbers(session.lower),
+        *side_numbers(session.upper),
+        *(*session.r256, *session.M, *session.d),
+    ]

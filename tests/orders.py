@@ -1,0 +1,41 @@
+"""The least order that is read, and sessions at an order."""
+
+import math
+from fractions import Fraction
+
+import exact_series
+from reference import Session
+
+
+def begun(encounter):
+    """A session at order 1, or None where the begin is refused."""
+    session = Session()
+    return None if session.begin(*encounter).refusal else session
+
+
+def at_order(encounter, N):
+    """A session at order N, for an encounter that is accepted."""
+    session = begun(encounter)
+    session.add(N - 1)
+    return session
+
+
+def least_for(M):
+    """The least N from 1 on with 2M at most N + 2, for a fraction M: test 23, were there no largest order."""
+    return max(1, math.ceil(2 * M) - 2)
+
+
+def least_of(session):
+    """The least order that is read, by the session's M."""
+    return least_for(Fraction(*exact_series.scaled_pair(session.M)))
+
+
+def least(encounter):
+    """The same for an encounter that is accepted."""
+    return least_of(begun(encounter))
+
+
+def exact_least(encounter):
+    """The same by the exact M."""
+    u, h, X, Y, _, _ = exact_series.letters(encounter)
+    return least_for(u + h / 2 + X + Y)

@@ -1,0 +1,107 @@
+"""The records of a script and the program's listing, by document 01."""
+
+import struct
+from typing import NamedTuple
+
+from reference import LONGEST_SCRIPT, Answer, Session
+
+
+class Kind(NamedTuple):
+    """The call that a record asks for, the layout of its body, and the word of its line."""
+
+    call: str
+    body: struct.Struct
+    said: str
+
+
+# "One byte of kind, then a fixed body, numbers little-endian."
+KINDS = {
+    1: Kind("begin", struct.Struct("<IIIii"), "begun"),
+    2: Kind("add", struct.Struct("<H"), "added"),
+    3: Kind("read", struct.Struct("<"), "read"),
+}
+# The largest count of an add.
+MOST_COUNT = (1 << 16) - 1
+
+
+def packed(kind, *inputs):
+    return bytes([kind]) + KINDS[kind].body.pack(*inputs)
+
+
+def begin(R, sx, sy, xm, ym):
+    return packed(1, R, sx, sy, xm, ym)
+
+
+def add(count):
+    return packed(2, count)
+
+
+READ = packed(3)
+
+
+class Record(NamedTuple):
+    """A record: its position, then refusal 1 or 2, or the kind and the inputs of its call."""
+
+    position: int
+    refusal: int
+    kind: Kind = None
+    inputs: tuple = ()
+
+    def called(self, session):
+        """The answer of its call."""
+        return Answer(self.refusal) if self.refusal else getattr(session, self.kind.call)(*self.inputs)
+
+
+def record_at(script, position):
+    """The record whose kind byte is at the position."""
+    kind = KINDS.get(script[position]) if position < len(script) else None
+    if kind is None:
+        return Record(position, 1)
+    body = script[position + 1 : position + 1 + kind.body.size]
+    if len(body) < kind.body.size:
+        return Record(position, 2)
+    return Record(position, 0, kind, kind.body.unpack(body))
+
+
+def records(script):
+    """The records that the program comes to."""
+    position = 0
+    # "It ends where no byte is left, and after refusal 1 or 2; after the others it goes on."
+    while position < len(script):
+        record = record_at(script, position)
+        yield record
+        if record.refusal:
+            return
+        position += 1 + record.kind.body.size
+
+
+# What the program prints.
+
+
+def line(record, answer):
+    """The line of one record."""
+    if answer.refusal:
+        return f"{record.position} refused {answer.refusal}\n"
+    words = [record.position, record.kind.said, answer.N]
+    if record.kind.call == "read":
+        words += [*answer.lower, *answer.upper, answer.class_name]
+    return " ".join(map(str, words)) + "\n"
+
+
+def listing(script):
+    """The whole listing."""
+    if len(script) > LONGEST_SCRIPT:
+        return "0 refused 8\n"
+    session = Session()
+    return "".join(line(record, record.called(session)) for record in records(script))
+
+
+def printed(line):
+    """The answer that a line shows."""
+    _, said, *rest = line.split(" ")
+    if said == "refused":
+        return Answer(int(rest[0]))
+    if said == "read":
+        N, ml, el, mh, eh = map(int, rest[:5])
+        return Answer(0, N, (ml, el), (mh, eh), rest[5] == "alert")
+    return Answer(N=int(rest[0]))
