@@ -15,15 +15,16 @@ use Rattle.listing.specs.Put.{PutLine}
 use Rattle.listing.specs.Listing.{PieceOf, listing, printed, too-long}
 use Rattle.listing.specs.declared.script.Piece.{Piece}
 use Rattle.screen.specs.Printing.{piece-size, printed-from, NextOf}
-use Rattle.screen.specs.Reading.{longest}
+use Rattle.exact.specs.Numbers.{largest-script}
+use Rattle.exact.specs.Refusals.{refuses-8}
 
-long-is : (l : List ℕ) (i : ℕ) (s : Session) → longest < length l → printed-from l i s ≡ line 0 0 too-long
-unfolding printed-from
-long-is l i s h = rw (lt-ltb longest (length l) h)
+long-is : (l : List ℕ) (i : ℕ) (s : Session) → largest-script < length l → printed-from l i s ≡ line 0 0 too-long
+unfolding printed-from refuses-8
+long-is l i s h = rw (lt-ltb largest-script (length l) h)
 
-short-is : (l : List ℕ) (i : ℕ) (s : Session) → length l ≤ longest → printed-from l i s ≡ listing l i s
-unfolding printed-from
-short-is l i s h = rw (le-ltb longest (length l) h)
+short-is : (l : List ℕ) (i : ℕ) (s : Session) → length l ≤ largest-script → printed-from l i s ≡ listing l i s
+unfolding printed-from refuses-8
+short-is l i s h = rw (le-ltb largest-script (length l) h)
 
 -- what is left at the start is what is printed
 start-is : (l : List ℕ) → printed-from l 0 empty ≡ printed l
@@ -33,7 +34,7 @@ start-is l = refl
 -- the line of refusal 8 is the last piece
 pub next-long :
     (l : List ℕ) (i : ℕ) (s : Session) (before after : List ℕ) (used : ℕ) →
-    longest < length l →
+    largest-script < length l →
     piece-size ≡ length before →
     Reached s →
     PutLine before after 0 0 0 too-long used →
@@ -53,7 +54,7 @@ next-long l i s before after used h n r p =
 -- lines of the listing are a piece
 pub next-short :
     (l : List ℕ) (i : ℕ) (s : Session) (before after : List ℕ) (p : Piece) →
-    length l ≤ longest →
+    length l ≤ largest-script →
     piece-size ≡ length before →
     PieceOf l i s before after p →
     NextOf l i s after p
@@ -71,7 +72,7 @@ next-short l i s before after p h n q = record {
 pub record Going (l : List ℕ) (i : ℕ) (s : Session) (done : ℕ) : Type 0 where
   pub total : done + length (printed-from l i s) ≡ length (printed l)
   pub most : done ≤ room * i
-  pub near : i ≤ longest
+  pub near : i ≤ largest-script
   pub reached : Reached s
 
 pub going-start : (l : List ℕ) (s : Session) → s ≡ empty → Reached s → Going l 0 s 0
@@ -96,5 +97,5 @@ module _ (l : List ℕ) (i : ℕ) (s : Session) (done : ℕ) (after : List ℕ) 
   pub going-end : p .ended ≡ true → done + p .used ≡ length (printed l)
   going-end e = omega (arith, g .total, rw e at sizes)
 
-  pub going-fits : done + p .used ≤ room * longest + piece-size
+  pub going-fits : done + p .used ≤ room * largest-script + piece-size
   going-fits = omega (arith, g .most, g .near, n .within, n .size)

@@ -3,12 +3,9 @@ use mathlib.Core.Path.{_≡_}
 use mathlib.Core.List.{List}
 use Prim.Native.Nat.{ℕ, _≤_, _<_}
 use lib.ListN.{length}
+use Rattle.exact.specs.Numbers.{largest-script}
 use Rattle.screen.specs.declared.Input.{Input}
 use Rattle.screen.specs.declared.Input.the-variants.{Bytes, Failed}
-
--- the longest script: refusal 8 is for a "script file longer than 65,536 bytes"
-abbrev pub longest : ℕ
-longest = 65536
 
 -- the bytes that were read lie within the buffer
 abbrev pub ReadInto : List ℕ → Input → Type 0
@@ -17,5 +14,5 @@ ReadInto buffer Failed = Unit {0}
 
 -- the script lies within the buffer, and where it fills it, so that more may follow, it is too long
 abbrev pub ScriptIn : List ℕ → Input → Type 0
-ScriptIn buffer (Bytes n) = (n ≤ length buffer) × (n ≡ length buffer → longest < n)
+ScriptIn buffer (Bytes n) = (n ≤ length buffer) × (n ≡ length buffer → largest-script < n)
 ScriptIn buffer Failed = Unit {0}

@@ -1,11 +1,13 @@
 // screen: runs a script from standard input and writes what document 01 says of it.
 ghost use Prim.Native.Nat.{_≤_, _<_};
 ghost use lib.ListN.{length};
+ghost use Rattle.exact.specs.Numbers.{largest-script};
 ghost use Rattle.encounter.specs.Calls.{Reached};
 ghost use Rattle.listing.specs.Listing.{printed};
 ghost use Rattle.screen.specs.Printing.{NextOf, Handed};
-ghost use Rattle.screen.specs.Reading.{longest, ReadInto, ScriptIn};
+ghost use Rattle.screen.specs.Reading.{ReadInto, ScriptIn};
 use encounter::state::Session;
+use exact::LARGEST_SCRIPT;
 use libc::EINTR;
 use libc::STDERR_FILENO;
 use libc::STDIN_FILENO;
@@ -14,11 +16,8 @@ use listing::script::Piece;
 use listing::script::put_lines;
 use listing::script::put_too_long;
 
-// The bytes of the longest script.
-const LONGEST: usize = 65536;
-
 // The bytes kept for the script: one more, so that a script that fills them is too long.
-const KEPT: usize = LONGEST + 1;
+const KEPT: usize = LARGEST_SCRIPT + 1;
 
 // The bytes of a piece of the listing.
 const PIECE: usize = 65536;
@@ -58,7 +57,7 @@ fn read_some(buf: &mut [u8]) -> Input
 
 // Reads the script up to its end, or up to the buffer's.
 fn read_script(buf: &mut [u8]) -> Input
-    requires { ⌜ longest < length (now buf) ⌝ }
+    requires { ⌜ largest-script < length (now buf) ⌝ }
     ensures { λ r. ⌜ ScriptIn (now (buf .exit)) r ⌝ }
 {
     let mut done: usize = 0;
@@ -79,7 +78,7 @@ fn put_piece(script: &[u8], at: usize, s: Session, out: &mut [u8; PIECE]) -> Pie
     requires { ⌜ Reached s ⌝ }
     ensures { λ p. ⌜ NextOf (now (script .entry)) at s (now (out .exit)) p ⌝ }
 {
-    if LONGEST < script.len() {
+    if LARGEST_SCRIPT < script.len() {
         let line = put_too_long(out);
         return Piece {
             used: line,

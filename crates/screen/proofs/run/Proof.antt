@@ -17,7 +17,7 @@ empty-requires : tie.Need-empty-requires Inv-loop μ-loop
 empty-requires c κs = search needs
 
 loop-holds : tie.Need-loop-holds Inv-loop μ-loop
-loop-holds c = going-start _ _ (c .empty .ensures .0) (c .empty .ensures .1)
+loop-holds c = going-start _ _ (c .empty .ensures .0 .0) (c .empty .ensures .0 .1)
 
 put-piece-requires : tie.Need-put-piece-requires Inv-loop μ-loop
 put-piece-requires c κs = c .before .loop .inv .reached
