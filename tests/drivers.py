@@ -72,8 +72,8 @@ use crate::words::put;
 use crate::words::signed;
 use crate::words::unsigned;
 use crate::words::word;
-use encounter::arithmetic;
-use encounter::wide;
+use encounter::arithmetic::scaled;
+use encounter::arithmetic::wide;
 use exact::Scaled;
 
 fn long(b: &[u8; 18], at: usize) -> u64 {
@@ -102,14 +102,14 @@ fn over_by(up: bool, a: Scaled, k: u32) -> Scaled {
 fn answer(b: &[u8; 18]) -> Scaled {
     let up = b[1] == 1;
     match b[0] {
-        0 => arithmetic::product(up, operand(b, 2), operand(b, 10)),
-        1 => arithmetic::sum(up, operand(b, 2), operand(b, 10)),
+        0 => scaled::product(up, operand(b, 2), operand(b, 10)),
+        1 => scaled::sum(up, operand(b, 2), operand(b, 10)),
         2 => over(up, operand(b, 2), word(b, 10)),
-        3 => arithmetic::quotient(up, operand(b, 2), operand(b, 10)),
-        4 => arithmetic::ratio(up, long(b, 2), long(b, 10)),
-        5 => arithmetic::halved(operand(b, 2)),
-        6 => arithmetic::doubled(operand(b, 2)),
-        7 => truth(arithmetic::at_most(operand(b, 2), operand(b, 10))),
+        3 => scaled::quotient(up, operand(b, 2), operand(b, 10)),
+        4 => scaled::ratio(up, long(b, 2), long(b, 10)),
+        5 => scaled::halved(operand(b, 2)),
+        6 => scaled::doubled(operand(b, 2)),
+        7 => truth(scaled::at_most(operand(b, 2), operand(b, 10))),
         8 => Scaled::whole(word(b, 2)),
         _ => over_by(up, operand(b, 2), word(b, 10)),
     }
@@ -143,30 +143,11 @@ use encounter::state::Called;
 use encounter::state::Class;
 use encounter::state::Session;
 use encounter::state::Side;
+use exact::Encounter;
 use exact::Scaled;
-
-struct Encounter {
-    R: u32,
-    sx: u32,
-    sy: u32,
-    xm: i32,
-    ym: i32,
-}
 
 fn encounter_of(b: &[u8; 21]) -> Encounter {
     Encounter { R: word(b, 1), sx: word(b, 5), sy: word(b, 9), xm: signed(word(b, 13)), ym: signed(word(b, 17)) }
-}
-
-fn held(s: Session) -> Encounter {
-    Encounter { R: s.R, sx: s.sx, sy: s.sy, xm: s.xm, ym: s.ym }
-}
-
-fn begin(s: Session, E: Encounter) -> Called {
-    calls::begin(s, E.R, E.sx, E.sy, E.xm, E.ym)
-}
-
-fn begin_lent(s: &mut Session, E: Encounter) -> Answer {
-    s.begin(E.R, E.sx, E.sy, E.xm, E.ym)
 }
 
 fn nothing() -> Answer {
@@ -176,7 +157,7 @@ fn nothing() -> Answer {
 
 fn by_value(s: Session, b: &[u8; 21]) -> Called {
     match b[0] {
-        1 => begin(s, encounter_of(b)),
+        1 => calls::begin(s, encounter_of(b)),
         2 => calls::add(s, word(b, 1) as u16),
         3 => Called { answer: calls::read(s), session: s },
         _ => Called { answer: nothing(), session: Session::empty() },
@@ -185,7 +166,7 @@ fn by_value(s: Session, b: &[u8; 21]) -> Called {
 
 fn call(s: &mut Session, b: &[u8; 21]) -> Answer {
     if b[0] == 4 {
-        return begin_lent(s, encounter_of(b));
+        return s.begin(encounter_of(b));
     }
     if b[0] == 5 {
         return s.add(word(b, 1) as u16);
@@ -238,7 +219,7 @@ fn put_side(line: &mut [u8], at: usize, s: Side) -> usize {
 }
 
 fn put_session(line: &mut [u8], at: usize, s: Session) -> usize {
-    let mut next = put_encounter(line, at, held(s));
+    let mut next = put_encounter(line, at, s.encounter);
     next = put(line, next, s.N);
     next = put_side(line, next, s.lower);
     next = put_side(line, next, s.upper);
