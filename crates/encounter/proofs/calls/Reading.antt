@@ -6,7 +6,7 @@ use native.Mathlib.Omega.{arith}
 use lib.Dec.{lit<, lit≤}
 use Rattle.exact.specs.declared.Scaled.{Scaled}
 use Rattle.exact.specs.Fraction.{_≼_, whole, _⊕_, _⊘_, at-most, above}
-use Rattle.exact.specs.Scaled.{one, value, double, Normal, IsScaled}
+use Rattle.exact.specs.Scaled.{U, one, value, double, Normal, IsScaled}
 use Rattle.exact.specs.Private.Ranges.{InRange}
 use Rattle.exact.specs.Private.Round.{round}
 use Rattle.exact.specs.Numbers.{exponential-cut, largest-order}
@@ -136,6 +136,16 @@ module _ (s : Session) (b : Begun s) where
 
       whole-range : (x : Scaled) → x ≡ round true 32 (value (s .upper .exponential) ⊕ value (double (s .r256))) → InRange 32 (2 ^ 22 + 3) x
       whole-range x e = rw e (sum-range true 32 (lit< tt) (widen (lit≤ tt) upper-exponential-fine) (double-range r256-fine))
+
+  pub upper-end-fine : {x : Scaled} → x ≡ upper-end E (s .N) → InRange 32 (2 ^ 28) x
+  unfolding upper-end
+  upper-end-fine e = rw (e, ← lower-exponential-is) (widen (lit≤ tt) (per-range true 32 (lit< tt) (total formed) lower-exponential-fine lower-exponential-normal))
+    where
+      formed : U (value (sum-to true E (s .N)) ⊕ tail-bound E (s .N)) ≡ round true 32 (value (s .upper .terms .sum) ⊕ value (double (s .d)))
+      formed = unfold tail-bound in rw (← upper-sum-is, ← d-is) (sum-double true 32 (s .upper .terms .sum) (s .d) (lit< tt))
+
+      total : {x : Scaled} → x ≡ round true 32 (value (s .upper .terms .sum) ⊕ value (double (s .d))) → InRange 32 (2 ^ 22 + 3) x
+      total e = rw e (sum-range true 32 (lit< tt) (widen (lit≤ tt) upper-sum-fine) (double-range d-fine))
 
   -- ---- test 23
 

@@ -49,7 +49,7 @@ const THRESHOLD: Scaled = Scaled {
 
 // The class, by both ends: today the lower one decides.
 pub fn classify(lower: Scaled, upper: Scaled) -> Class
-    requires { ⌜ InRange 32 (2 ^ 28) lower ⌝ }
+    requires { ⌜ (InRange 32 (2 ^ 28) lower) × (InRange 32 (2 ^ 28) upper) ⌝ }
     ensures { λ r. ⌜ r ≡ class-of lower upper ⌝ }
 {
     if at_most(THRESHOLD, lower) {

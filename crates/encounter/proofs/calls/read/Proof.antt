@@ -1,7 +1,7 @@
 use mathlib.Core.Path.{_≡_, sym, _∙_, ap}
 use mathlib.Core.Bool.{Bool, not}
 use Rattle.encounter.proofs.calls.Invariant.{begun, demands}
-use Rattle.encounter.proofs.calls.Reading.{not-not, lower-end-fine}
+use Rattle.encounter.proofs.calls.Reading.{not-not, lower-end-fine, upper-end-fine}
 use Rattle.encounter.proofs.calls.Answering.{read-21, read-23, read-taken, bracket-is}
 use borrow.Author.Needs.{needs}
 use Rattle.encounter.proofs.calls.read.Statement.{statement}
@@ -29,7 +29,8 @@ upper-end-requires c κs = let z = c .before .before .before .before .before in 
 classify-requires : tie.Need-classify-requires
 classify-requires c κs =
     let z = c .before .before .before .before .before .before in
-    lower-end-fine (z .args .s) (begun (z .args .s) (z .pre) (c .before .before .before .before .if1 .left)) (c .before .lower-end .ensures)
+    let b = begun (z .args .s) (z .pre) (c .before .before .before .before .if1 .left) in
+    (lower-end-fine (z .args .s) b (c .before .lower-end .ensures), upper-end-fine (z .args .s) b (c .upper-end .ensures))
 
 refuse-requires-2 : tie.Need-refuse-requires-2
 refuse-requires-2 c κs = search needs

@@ -39,15 +39,15 @@ unfolding alert
 test-is {x} n e = e ∙ rw (← threshold-is) (at-least-up 32 (1 over alert-odds) (lit< tt) n) ∙ scale (value x)
 
 at-most-requires : tie.Need-at-most-requires
-at-most-requires c κs = (threshold-in, c .pre)
+at-most-requires c κs = (threshold-in, c .pre .0)
 
 returns : tie.Need-returns
 unfolding class-of
-returns c = rw (← test-is (c .before .before .pre .is-scaled) (c .before .at-most .ensures), c .if1 .taken)
+returns c = rw (← test-is (c .before .before .pre .0 .is-scaled) (c .before .at-most .ensures), c .if1 .taken)
 
 returns-2 : tie.Need-returns-2
 unfolding class-of
-returns-2 c = rw (← test-is (c .before .before .pre .is-scaled) (c .before .at-most .ensures), c .if1 .left)
+returns-2 c = rw (← test-is (c .before .before .pre .0 .is-scaled) (c .before .at-most .ensures), c .if1 .left)
 
 pub classify-spec : {M : Type 1} → statement M
 classify-spec = tie.close (tie.spec at-most-requires returns returns-2)
