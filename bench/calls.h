@@ -1,6 +1,6 @@
 /* One contender from its calls. Before each inclusion these are defined:
-   NAME, LABEL, SESSION, ANSWER, OPEN(s), BEGIN(s, R, sx, sy, xm, ym), ADD(s, count), READ(s), COPY(to, from),
-   where s, to and from are pointers, and ENDS(s, a) for the harness's answer to the answer a of a read of s. */
+   NAME, LABEL, SESSION, ANSWER, EMPTY(s), BEGIN(s, E), ADD(s, count), READ(s), COPY(to, from), where s, to and from are
+   pointers, and ENDS(s, a) for the harness's answer to the answer a of a read of s. */
 
 #define JOIN_(a, b) a##_##b
 #define JOIN(a, b) JOIN_(a, b)
@@ -8,14 +8,14 @@
 
 static SESSION OF(own), OF(first), OF(copies)[COPIES], OF(screened)[SCREENED];
 
-static void OF(open)(void)
+static void OF(empty)(void)
 {
-    OPEN(&OF(own));
+    EMPTY(&OF(own));
 }
 
-static struct answer OF(begin)(uint32_t R, uint32_t sx, uint32_t sy, int32_t xm, int32_t ym)
+static struct answer OF(begin)(jinthuol_encounter E)
 {
-    ANSWER a = BEGIN(&OF(own), R, sx, sy, xm, ym);
+    ANSWER a = BEGIN(&OF(own), E);
     return (struct answer){.refusal = a.refusal, .N = a.N};
 }
 
@@ -31,14 +31,14 @@ static struct answer OF(read)(void)
     return ENDS(&OF(own), a);
 }
 
-static double OF(time_begin)(const struct encounter *e, double least)
+static double OF(time_begin)(const struct measured *e, double least)
 {
     double spent = 0, calls = 0;
-    OPEN(&OF(first));
+    EMPTY(&OF(first));
     while (spent < least) {
         double start = now();
         for (int i = 0; i < 16; i++)
-            sink = BEGIN(&OF(first), e->R, e->sx, e->sy, e->xm, e->ym).N;
+            sink = BEGIN(&OF(first), e->E).N;
         spent += now() - start;
         calls += 16;
     }
@@ -46,13 +46,13 @@ static double OF(time_begin)(const struct encounter *e, double least)
 }
 
 /* Only the adds are timed: each has its own copy of the begun session. */
-static double OF(time_add)(const struct encounter *e, double least)
+static double OF(time_add)(const struct measured *e, double least)
 {
     double spent = 0, terms = 0;
     for (int i = 0; i < COPIES; i++)
-        OPEN(&OF(copies)[i]);
-    OPEN(&OF(first));
-    BEGIN(&OF(first), e->R, e->sx, e->sy, e->xm, e->ym);
+        EMPTY(&OF(copies)[i]);
+    EMPTY(&OF(first));
+    BEGIN(&OF(first), e->E);
     while (spent < least) {
         for (int i = 0; i < COPIES; i++)
             COPY(&OF(copies)[i], &OF(first));
@@ -65,11 +65,11 @@ static double OF(time_add)(const struct encounter *e, double least)
     return spent / terms;
 }
 
-static double OF(time_read)(const struct encounter *e, double least)
+static double OF(time_read)(const struct measured *e, double least)
 {
     double spent = 0, calls = 0;
-    OPEN(&OF(first));
-    BEGIN(&OF(first), e->R, e->sx, e->sy, e->xm, e->ym);
+    EMPTY(&OF(first));
+    BEGIN(&OF(first), e->E);
     ADD(&OF(first), (uint16_t)(e->N - 1));
     while (spent < least) {
         double start = now();
@@ -81,17 +81,17 @@ static double OF(time_read)(const struct encounter *e, double least)
     return spent / calls;
 }
 
-static void OF(time_screening)(const struct encounter *list, double *begin, double *term)
+static void OF(time_screening)(const struct measured *list, double *begin, double *term)
 {
     SESSION *s = OF(screened);
     double terms = 0;
     for (int i = 0; i < SCREENED; i++) {
-        OPEN(&s[i]);
+        EMPTY(&s[i]);
         terms += list[i].N - 1.0;
     }
     double start = now();
     for (int i = 0; i < SCREENED; i++)
-        sink = BEGIN(&s[i], list[i].R, list[i].sx, list[i].sy, list[i].xm, list[i].ym).N;
+        sink = BEGIN(&s[i], list[i].E).N;
     double between = now();
     for (int i = 0; i < SCREENED; i++)
         sink = ADD(&s[i], (uint16_t)(list[i].N - 1)).N;
@@ -100,14 +100,14 @@ static void OF(time_screening)(const struct encounter *list, double *begin, doub
 }
 
 const struct contender NAME = {
-    LABEL, OF(open), OF(begin), OF(add), OF(read), OF(time_begin), OF(time_add), OF(time_read), OF(time_screening),
+    LABEL, OF(empty), OF(begin), OF(add), OF(read), OF(time_begin), OF(time_add), OF(time_read), OF(time_screening),
 };
 
 #undef NAME
 #undef LABEL
 #undef SESSION
 #undef ANSWER
-#undef OPEN
+#undef EMPTY
 #undef BEGIN
 #undef ADD
 #undef READ

@@ -78,7 +78,7 @@ def calls_of(rng, long):
     """The calls for one encounter."""
     calls = []
     if rng.random() < 0.2:
-        calls.append(("open",))
+        calls.append(("empty",))
     if rng.random() < 0.2:
         calls.append(rng.choice((("read",), ("add", rng.choice((0, 1, 5, 65535))))))
     draw = rng.choices((drawn, extreme, refused), (8, 1, 1))[0]
@@ -102,7 +102,7 @@ def answers(calls):
     """The reference's answers."""
     session = Session()
     for name, *words in calls:
-        if name == "open":
+        if name == "empty":
             session = Session()
             yield (0,) * 7
         else:

@@ -2,13 +2,13 @@
 #ifndef CONTENDER_H
 #define CONTENDER_H
 
+#include "jinthuol.h"
 #include <stdint.h>
 
-/* An encounter in centimetres, and the order to which its terms are added. */
-struct encounter {
+/* A case: an encounter, and the order to which its terms are added. */
+struct measured {
     const char *name;
-    uint32_t R, sx, sy;
-    int32_t xm, ym;
+    jinthuol_encounter E;
     uint32_t N;
 };
 
@@ -25,17 +25,17 @@ struct answer {
 
 struct contender {
     const char *name;
-    /* The calls on one session that the contender keeps; open empties it. */
-    void (*open)(void);
-    struct answer (*begin)(uint32_t R, uint32_t sx, uint32_t sy, int32_t xm, int32_t ym);
+    /* The calls on one session that the contender keeps. */
+    void (*empty)(void);
+    struct answer (*begin)(jinthuol_encounter E);
     struct answer (*add)(uint16_t count);
     struct answer (*read)(void);
     /* Nanoseconds of a begin, of each term of an add, and of a read, over at least `least` nanoseconds. */
-    double (*time_begin)(const struct encounter *e, double least);
-    double (*time_add)(const struct encounter *e, double least);
-    double (*time_read)(const struct encounter *e, double least);
+    double (*time_begin)(const struct measured *e, double least);
+    double (*time_add)(const struct measured *e, double least);
+    double (*time_read)(const struct measured *e, double least);
     /* The same of a begin and of each term over SCREENED encounters: all are begun, then all are added. */
-    void (*time_screening)(const struct encounter *list, double *begin, double *term);
+    void (*time_screening)(const struct measured *list, double *begin, double *term);
 };
 
 /* The encounters of the screening. */

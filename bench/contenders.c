@@ -19,7 +19,7 @@
 #define LABEL "proved"
 #define SESSION jinthuol_session
 #define ANSWER jinthuol_answer
-#define OPEN(s) (*(s) = jinthuol_open())
+#define EMPTY(s) (*(s) = jinthuol_empty())
 #define BEGIN jinthuol_begin
 #define ADD jinthuol_add
 #define READ(s) jinthuol_read(*(s))
@@ -31,7 +31,7 @@
 #define LABEL "same"
 #define SESSION plain_session
 #define ANSWER plain_answer
-#define OPEN(s) (*(s) = plain_open())
+#define EMPTY(s) (*(s) = plain_empty())
 #define BEGIN same_begin
 #define ADD same_add
 #define READ plain_read
@@ -43,7 +43,7 @@
 #define LABEL "plain"
 #define SESSION plain_session
 #define ANSWER plain_answer
-#define OPEN(s) (*(s) = plain_open())
+#define EMPTY(s) (*(s) = plain_empty())
 #define BEGIN plain_begin
 #define ADD plain_add
 #define READ plain_read
@@ -55,7 +55,7 @@
 #define LABEL "doubles"
 #define SESSION plain_session
 #define ANSWER plain_answer
-#define OPEN(s) (*(s) = plain_open())
+#define EMPTY(s) (*(s) = plain_empty())
 #define BEGIN doubles_begin
 #define ADD doubles_add
 #define READ plain_read
@@ -78,7 +78,7 @@ static struct answer steps_ends(const steps_session *s, steps_answer a)
 #define LABEL "mpfr"
 #define SESSION steps_session
 #define ANSWER steps_answer
-#define OPEN steps_open
+#define EMPTY steps_empty
 #define BEGIN steps_begin
 #define ADD steps_add
 #define READ steps_read

@@ -136,9 +136,9 @@ static const double SMALL = 0x1p-256, LARGE = 0x1p128;
 static const pair TINY = {0x1p-200, -0x1p-200};
 
 /* The session at order 1, or 7 where test 7 refuses. */
-static __attribute__((noinline)) uint32_t open_session(plain_session *s, int64_t R, int64_t sx, int64_t sy, int64_t xm,
-                                                       int64_t ym)
+static __attribute__((noinline)) uint32_t open_session(plain_session *s, jinthuol_encounter E)
 {
+    int64_t R = E.R, sx = E.sx, sy = E.sy, xm = E.xm, ym = E.ym;
     pair u = ratio(R * R, 2 * sy * sy);
     pair zx = ratio(xm * xm, 2 * sx * sx), zy = ratio(ym * ym, 2 * sy * sy);
     pair t = sum(sum(zx, zy), u);
@@ -151,11 +151,7 @@ static __attribute__((noinline)) uint32_t open_session(plain_session *s, int64_t
     pair p = product(c, factor(u));
     pair M = sum(sum(sum(u, h * both(0.5)), X), Y);
     pair d = product(c, factor(M)) * both(0.5);
-    s->R = (uint32_t)R;
-    s->sx = (uint32_t)sx;
-    s->sy = (uint32_t)sy;
-    s->xm = (int32_t)xm;
-    s->ym = (int32_t)ym;
+    s->encounter = E;
     s->N = 1;
     put(&s->lower.u, &s->upper.u, u, 0);
     put(&s->lower.h, &s->upper.h, h, 0);
@@ -226,13 +222,13 @@ static plain_answer refuse(uint32_t refusal)
     return (plain_answer){.refusal = refusal};
 }
 
-plain_answer doubles_begin(plain_session *s, uint32_t R, uint32_t sx, uint32_t sy, int32_t xm, int32_t ym)
+plain_answer doubles_begin(plain_session *s, jinthuol_encounter E)
 {
-    uint32_t first = plain_tests(R, sx, sy, xm, ym);
+    uint32_t first = plain_tests(E);
     if (first)
         return refuse(first);
     direction before = downward();
-    uint32_t refusal = open_session(s, R, sx, sy, xm, ym);
+    uint32_t refusal = open_session(s, E);
     restore(before);
     return refusal ? refuse(refusal) : (plain_answer){.N = 1};
 }

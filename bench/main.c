@@ -15,11 +15,11 @@
 
 /* Inputs in centimetres: Test 1 and Alfano 3 from document 01, "Encounters on each edge"; Chan 1 from document 000,
    Table 3, as in examples/chan-1.md; the last is document 01's encounter with t = 64, at the largest order. */
-static const struct encounter CASES[] = {
-    {"Test 1", 500, 5000, 100, 1000, 0, 101},
-    {"Alfano 3", 1500, 11425, 141, 15, -388, 1597},
-    {"Chan 1", 500, 5000, 2500, 1000, 0, 49},
-    {"t = 64", 8, 1, 1, 8, 0, 4096},
+static const struct measured CASES[] = {
+    {"Test 1", {500, 5000, 100, 1000, 0}, 101},
+    {"Alfano 3", {1500, 11425, 141, 15, -388}, 1597},
+    {"Chan 1", {500, 5000, 2500, 1000, 0}, 49},
+    {"t = 64", {8, 1, 1, 8, 0}, 4096},
 };
 
 static const struct contender *const CONTENDERS[] = {
@@ -67,16 +67,16 @@ static int equal(const struct answer *a, const struct answer *b)
 }
 
 /* The answer of a read at order N. */
-static struct answer ends(const struct contender *c, const struct encounter *e)
+static struct answer ends(const struct contender *c, const struct measured *e)
 {
-    c->open();
-    c->begin(e->R, e->sx, e->sy, e->xm, e->ym);
+    c->empty();
+    c->begin(e->E);
     c->add((uint16_t)(e->N - 1));
     return c->read();
 }
 
 /* Whether every contender's ends, order and class are those of the first. */
-static int compare(const struct encounter *e)
+static int compare(const struct measured *e)
 {
     struct answer due = ends(CONTENDERS[0], e);
     if (due.refusal != 0) {
@@ -98,7 +98,7 @@ static int compare(const struct encounter *e)
 /* The times of each case and, last, of the screening. */
 static double times[CASE_COUNT + 1][KINDS][COUNT][ROUNDS];
 
-static double time_of(const struct contender *c, int kind, const struct encounter *e)
+static double time_of(const struct contender *c, int kind, const struct measured *e)
 {
     switch (kind) {
     case BEGIN:
@@ -111,7 +111,7 @@ static double time_of(const struct contender *c, int kind, const struct encounte
 }
 
 /* In each round the cases take turns, and for each kind the contenders. */
-static void measure(const struct encounter *list)
+static void measure(const struct measured *list)
 {
     for (int round = 0; round < ROUNDS; round++) {
         for (int i = 0; i < CASE_COUNT; i++)
@@ -185,12 +185,12 @@ static uint32_t drawn(uint32_t limit)
 }
 
 /* Encounters of all sizes with a read that the first contender accepts, at orders from 81 to 120. */
-static void draw_screening(struct encounter *list)
+static void draw_screening(struct measured *list)
 {
     for (int i = 0; i < SCREENED;) {
         uint32_t sx = 100 + drawn(1u << (7 + drawn(14))), sy = 1 + drawn(sx), R = 1 + drawn(4 * sy);
         int32_t xm = (int32_t)drawn(16 * sx) - (int32_t)(8 * sx), ym = (int32_t)drawn(16 * sy) - (int32_t)(8 * sy);
-        struct encounter e = {"screening", R, sx, sy, xm, ym, 81 + drawn(40)};
+        struct measured e = {"screening", {R, sx, sy, xm, ym}, 81 + drawn(40)};
         if (ends(CONTENDERS[PROVED], &e).refusal == 0)
             list[i++] = e;
     }
@@ -215,7 +215,7 @@ static void print_processor(void)
 
 static int table(void)
 {
-    static struct encounter list[SCREENED];
+    static struct measured list[SCREENED];
     draw_screening(list);
     for (int i = 0; i < CASE_COUNT; i++)
         if (!compare(&CASES[i]))
@@ -229,9 +229,9 @@ static int table(void)
     printf("The ends, N and class of all contenders are equal.\n");
     measure(list);
     for (int i = 0; i < CASE_COUNT; i++) {
-        const struct encounter *e = &CASES[i];
-        printf("\n%s, (%" PRIu32 ", %" PRIu32 ", %" PRIu32 ", %" PRId32 ", %" PRId32 "), N = %" PRIu32 "\n", e->name,
-               e->R, e->sx, e->sy, e->xm, e->ym, e->N);
+        jinthuol_encounter E = CASES[i].E;
+        printf("\n%s, (%" PRIu32 ", %" PRIu32 ", %" PRIu32 ", %" PRId32 ", %" PRId32 "), N = %" PRIu32 "\n", CASES[i].name,
+               E.R, E.sx, E.sy, E.xm, E.ym, CASES[i].N);
         print_times(times[i], KINDS);
     }
     printf("\nScreening: %d encounters, N from 81 to 120, each begun once and added once in a round\n", SCREENED);
@@ -239,24 +239,24 @@ static int table(void)
     return 0;
 }
 
-/* Lines `open`, `begin R sx sy xm ym`, `add count` and `read`; the answer's fields, or 0 for open. */
+/* Lines `empty`, `begin R sx sy xm ym`, `add count` and `read`; the answer's fields, or 0 for empty. */
 static int calls(const struct contender *c)
 {
     char line[128];
-    c->open();
+    c->empty();
     while (fgets(line, sizeof line, stdin)) {
-        uint32_t R, sx, sy;
-        int32_t xm, ym;
+        jinthuol_encounter E;
         uint16_t count;
         struct answer a = {0};
-        if (sscanf(line, "begin %" SCNu32 " %" SCNu32 " %" SCNu32 " %" SCNd32 " %" SCNd32, &R, &sx, &sy, &xm, &ym) == 5)
-            a = c->begin(R, sx, sy, xm, ym);
+        if (sscanf(line, "begin %" SCNu32 " %" SCNu32 " %" SCNu32 " %" SCNd32 " %" SCNd32, &E.R, &E.sx, &E.sy, &E.xm,
+                   &E.ym) == 5)
+            a = c->begin(E);
         else if (sscanf(line, "add %" SCNu16, &count) == 1)
             a = c->add(count);
         else if (strcmp(line, "read\n") == 0)
             a = c->read();
-        else if (strcmp(line, "open\n") == 0)
-            c->open();
+        else if (strcmp(line, "empty\n") == 0)
+            c->empty();
         else
             return 2;
         print_answer(&a);

@@ -19,7 +19,7 @@ static void make(void)
     f(s.u) f(s.h) f(s.X) f(s.Y) f(s.t) f(s.exponential) f(s.c) f(s.p) f(s.v) f(s.y) f(s.sum)
 #define EACH(f) EACH_OF_SIDE(f, lower) EACH_OF_SIDE(f, upper) f(r256) f(M) f(d) f(lower_end) f(upper_end)
 
-void steps_open(steps_session *s)
+void steps_empty(steps_session *s)
 {
     if (!made)
         make();
@@ -30,19 +30,15 @@ void steps_open(steps_session *s)
         s->made = 1;
     }
     EACH(ZERO)
-    s->R = s->sx = s->sy = s->N = 0;
-    s->xm = s->ym = 0;
+    s->encounter = (jinthuol_encounter){0};
+    s->N = 0;
 }
 
 void steps_copy(steps_session *to, const steps_session *from)
 {
 #define SET(x) mpfr_set(to->x, from->x, MPFR_RNDN);
     EACH(SET)
-    to->R = from->R;
-    to->sx = from->sx;
-    to->sy = from->sy;
-    to->xm = from->xm;
-    to->ym = from->ym;
+    to->encounter = from->encounter;
     to->N = from->N;
 }
 
@@ -59,21 +55,21 @@ static uint64_t square(int64_t x)
 }
 
 /* u, zx, zy and t. */
-static void first_letters(steps_side *s, int64_t R, int64_t sx, int64_t sy, int64_t xm, int64_t ym, mpfr_rnd_t way)
+static void first_letters(steps_side *s, jinthuol_encounter E, mpfr_rnd_t way)
 {
-    ratio(s->u, square(R), 2 * square(sy), way);
-    ratio(zx, square(xm), 2 * square(sx), way);
-    ratio(zy, square(ym), 2 * square(sy), way);
+    ratio(s->u, square(E.R), 2 * square(E.sy), way);
+    ratio(zx, square(E.xm), 2 * square(E.sx), way);
+    ratio(zy, square(E.ym), 2 * square(E.sy), way);
     mpfr_add(a, zx, zy, way);
     mpfr_add(s->t, a, s->u, way);
 }
 
 /* The rest of a side at order 1, and r(255) in r. */
-static void open_side(steps_side *s, int64_t R, int64_t sx, int64_t sy, mpfr_rnd_t way)
+static void open_side(steps_side *s, jinthuol_encounter E, mpfr_rnd_t way)
 {
-    ratio(b, square(R), 2 * square(sx), way);
-    ratio(g, square(sx) - square(sy), square(sx), way);
-    ratio(s->c, square(R), 2 * (uint64_t)(sx * sy), way);
+    ratio(b, square(E.R), 2 * square(E.sx), way);
+    ratio(g, square(E.sx) - square(E.sy), square(E.sx), way);
+    ratio(s->c, square(E.R), 2 * (uint64_t)E.sx * E.sy, way);
     mpfr_mul(s->h, s->u, g, way);
     mpfr_mul(s->X, zx, b, way);
     mpfr_mul(s->Y, zy, s->u, way);
@@ -115,24 +111,24 @@ static int far(int32_t z)
 /* The upper t is formed in a session of its own: a refused begin changes nothing. */
 static steps_session tried;
 
-steps_answer steps_begin(steps_session *s, uint32_t R, uint32_t sx, uint32_t sy, int32_t xm, int32_t ym)
+steps_answer steps_begin(steps_session *s, jinthuol_encounter E)
 {
-    if (outside(R))
+    if (outside(E.R))
         return refuse(3);
-    if (outside(sx) || outside(sy))
+    if (outside(E.sx) || outside(E.sy))
         return refuse(4);
-    if (sy > sx)
+    if (E.sy > E.sx)
         return refuse(5);
-    if (far(xm) || far(ym))
+    if (far(E.xm) || far(E.ym))
         return refuse(6);
     if (!tried.made)
-        steps_open(&tried);
-    first_letters(&tried.upper, R, sx, sy, xm, ym, MPFR_RNDU);
+        steps_empty(&tried);
+    first_letters(&tried.upper, E, MPFR_RNDU);
     if (mpfr_cmp_ui(tried.upper.t, 64) > 0)
         return refuse(7);
     mpfr_set(s->upper.u, tried.upper.u, MPFR_RNDU);
     mpfr_set(s->upper.t, tried.upper.t, MPFR_RNDU);
-    open_side(&s->upper, R, sx, sy, MPFR_RNDU);
+    open_side(&s->upper, E, MPFR_RNDU);
     mpfr_mul(a, r, s->upper.t, MPFR_RNDU);
     mpfr_div_ui(s->r256, a, 256, MPFR_RNDU);
     mpfr_div_2ui(a, s->upper.h, 1, MPFR_RNDU);
@@ -141,13 +137,9 @@ steps_answer steps_begin(steps_session *s, uint32_t R, uint32_t sx, uint32_t sy,
     mpfr_add(s->M, a, s->upper.Y, MPFR_RNDU);
     mpfr_set(s->d, s->upper.c, MPFR_RNDU);
     next_tail(s, 2);
-    first_letters(&s->lower, R, sx, sy, xm, ym, MPFR_RNDD);
-    open_side(&s->lower, R, sx, sy, MPFR_RNDD);
-    s->R = R;
-    s->sx = sx;
-    s->sy = sy;
-    s->xm = xm;
-    s->ym = ym;
+    first_letters(&s->lower, E, MPFR_RNDD);
+    open_side(&s->lower, E, MPFR_RNDD);
+    s->encounter = E;
     s->N = 1;
     return (steps_answer){.N = 1};
 }

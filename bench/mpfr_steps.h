@@ -2,6 +2,7 @@
 #ifndef MPFR_STEPS_H
 #define MPFR_STEPS_H
 
+#include "jinthuol.h"
 #include <stdint.h>
 #define MPFR_USE_INTMAX_T
 #include <mpfr.h>
@@ -14,8 +15,7 @@ typedef struct {
 /* The session's numbers, and the two ends that the last read formed. */
 typedef struct {
     int made;
-    uint32_t R, sx, sy;
-    int32_t xm, ym;
+    jinthuol_encounter encounter;
     uint32_t N;
     steps_side lower, upper;
     mpfr_t r256, M, d;
@@ -29,10 +29,10 @@ typedef struct {
 } steps_answer;
 
 /* Makes the variables on the first call for a session that was all zero bytes, and empties the session. */
-void steps_open(steps_session *s);
-/* The other calls ask for a session that was opened. */
+void steps_empty(steps_session *s);
+/* The other calls ask for a session that was emptied. */
 void steps_copy(steps_session *to, const steps_session *from);
-steps_answer steps_begin(steps_session *s, uint32_t R, uint32_t sx, uint32_t sy, int32_t xm, int32_t ym);
+steps_answer steps_begin(steps_session *s, jinthuol_encounter E);
 steps_answer steps_add(steps_session *s, uint16_t count);
 steps_answer steps_read(steps_session *s);
 /* x as m × 2^e, where x is zero or has 32 bits. */

@@ -349,28 +349,28 @@ static plain_answer refuse(uint32_t refusal)
     return (plain_answer){.refusal = refusal};
 }
 
-plain_session plain_open(void)
+plain_session plain_empty(void)
 {
     return (plain_session){0};
 }
 
-plain_answer plain_begin(plain_session *s, uint32_t R, uint32_t sx, uint32_t sy, int32_t xm, int32_t ym)
+plain_answer plain_begin(plain_session *s, jinthuol_encounter E)
 {
-    uint32_t first = plain_tests(R, sx, sy, xm, ym);
+    uint32_t first = plain_tests(E);
     if (first)
         return refuse(first);
-    u64 RR = (u64)R * R, xx = (u64)sx * sx, yy = (u64)sy * sy;
+    u64 RR = (u64)E.R * E.R, xx = (u64)E.sx * E.sx, yy = (u64)E.sy * E.sy;
     plain_scaled zx[2], zy[2], u[2], b[2], g[2], c[2];
     ratio(RR, 2 * yy, &u[0], &u[1]);
-    ratio((u64)((i64)xm * xm), 2 * xx, &zx[0], &zx[1]);
-    ratio((u64)((i64)ym * ym), 2 * yy, &zy[0], &zy[1]);
+    ratio((u64)((i64)E.xm * E.xm), 2 * xx, &zx[0], &zx[1]);
+    ratio((u64)((i64)E.ym * E.ym), 2 * yy, &zy[0], &zy[1]);
     plain_scaled T = sum(1, sum(1, zx[1], zy[1]), u[1]);
     if (!at_most(T, (plain_scaled){0x80000000u, -25}))
         return refuse(7);
     ratio(RR, 2 * xx, &b[0], &b[1]);
     ratio(xx - yy, xx, &g[0], &g[1]);
-    ratio(RR, 2 * (u64)sx * sy, &c[0], &c[1]);
-    *s = (plain_session){.R = R, .sx = sx, .sy = sy, .xm = xm, .ym = ym, .N = 1};
+    ratio(RR, 2 * (u64)E.sx * E.sy, &c[0], &c[1]);
+    *s = (plain_session){.encounter = E, .N = 1};
     for (int up = 0; up < 2; up++) {
         plain_side *side = up ? &s->upper : &s->lower;
         side->u = u[up];

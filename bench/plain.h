@@ -3,6 +3,7 @@
 #ifndef PLAIN_H
 #define PLAIN_H
 
+#include "jinthuol.h"
 #include <stdint.h>
 
 /* A scaled number m × 2^e. */
@@ -18,8 +19,7 @@ typedef struct {
 
 /* The numbers that document 01 has a session hold; N is 0 where no encounter was begun. */
 typedef struct {
-    uint32_t R, sx, sy;
-    int32_t xm, ym;
+    jinthuol_encounter encounter;
     uint32_t N;
     plain_side lower, upper;
     plain_scaled r256, M, d;
@@ -33,22 +33,22 @@ typedef struct {
     uint32_t class_;
 } plain_answer;
 
-plain_session plain_open(void);
-plain_answer plain_begin(plain_session *s, uint32_t R, uint32_t sx, uint32_t sy, int32_t xm, int32_t ym);
+plain_session plain_empty(void);
+plain_answer plain_begin(plain_session *s, jinthuol_encounter E);
 plain_answer plain_add(plain_session *s, uint16_t count);
 plain_answer plain_read(const plain_session *s);
 
 /* Tests 3 to 6: the number of the first that refuses, or 0. */
-static inline uint32_t plain_tests(uint32_t R, uint32_t sx, uint32_t sy, int32_t xm, int32_t ym)
+static inline uint32_t plain_tests(jinthuol_encounter E)
 {
     const uint32_t most = 10000000;
-    if (R - 1 >= most)
+    if (E.R - 1 >= most)
         return 3;
-    if (sx - 1 >= most || sy - 1 >= most)
+    if (E.sx - 1 >= most || E.sy - 1 >= most)
         return 4;
-    if (sy > sx)
+    if (E.sy > E.sx)
         return 5;
-    return (uint32_t)xm + most > 2 * most || (uint32_t)ym + most > 2 * most ? 6 : 0;
+    return (uint32_t)E.xm + most > 2 * most || (uint32_t)E.ym + most > 2 * most ? 6 : 0;
 }
 
 /* Both exponential sums and the upper r(256), from the session's two t. */

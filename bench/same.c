@@ -4,7 +4,7 @@
 
 typedef plain_scaled scaled;
 
-/* src/wide.rt */
+/* src/arithmetic/wide.rt */
 
 typedef struct {
     uint64_t m;
@@ -98,7 +98,7 @@ static wide halved(wide a)
     return a.m == 0 ? a : (wide){a.m, a.e - 1};
 }
 
-/* src/sides.rt */
+/* src/steps/sides.rt */
 
 typedef struct {
     wide lower, upper;
@@ -134,7 +134,7 @@ static pair halves(pair a)
     return (pair){halved(a.lower), halved(a.upper)};
 }
 
-/* src/terms.rt and src/progress.rt */
+/* src/steps/terms.rt and src/steps/progress.rt */
 
 plain_answer same_add(plain_session *s, uint16_t count)
 {
@@ -169,7 +169,7 @@ plain_answer same_add(plain_session *s, uint16_t count)
     return (plain_answer){.N = N};
 }
 
-/* src/rounding.rt, src/arithmetic.rt and src/letters.rt */
+/* src/arithmetic/rounding.rt, src/arithmetic/scaled.rt and src/steps/letters.rt */
 
 static wide pack_any(bool up, uint64_t h, int64_t e, bool rest)
 {
@@ -204,16 +204,16 @@ typedef struct {
     wide u, h, X, Y, t;
 } letters;
 
-static letters letters_of(bool up, uint32_t R, uint32_t sx, uint32_t sy, int32_t xm, int32_t ym)
+static letters letters_of(bool up, jinthuol_encounter E)
 {
-    uint64_t xx = square(sx), yy = square(sy);
-    wide u = ratio(up, square(R), 2 * yy), b = ratio(up, square(R), 2 * xx);
-    wide zx = ratio(up, square(xm), 2 * xx), zy = ratio(up, square(ym), 2 * yy);
+    uint64_t RR = square(E.R), xx = square(E.sx), yy = square(E.sy);
+    wide u = ratio(up, RR, 2 * yy), b = ratio(up, RR, 2 * xx);
+    wide zx = ratio(up, square(E.xm), 2 * xx), zy = ratio(up, square(E.ym), 2 * yy);
     wide h = product(up, u, ratio(up, xx - yy, xx));
     return (letters){u, h, product(up, zx, b), product(up, zy, u), sum(up, sum(up, zx, zy), u)};
 }
 
-/* src/calls.rt and src/powers.rt */
+/* src/calls.rt, src/calls/opening.rt and src/steps/powers.rt */
 
 static void put_side(plain_side *s, letters l, wide start, wide p, wide exponential)
 {
@@ -223,18 +223,18 @@ static void put_side(plain_side *s, letters l, wide start, wide p, wide exponent
     s->p = narrowed(p);
 }
 
-plain_answer same_begin(plain_session *s, uint32_t R, uint32_t sx, uint32_t sy, int32_t xm, int32_t ym)
+plain_answer same_begin(plain_session *s, jinthuol_encounter E)
 {
-    uint32_t first = plain_tests(R, sx, sy, xm, ym);
+    uint32_t first = plain_tests(E);
     if (first)
         return (plain_answer){.refusal = first};
-    letters above = letters_of(true, R, sx, sy, xm, ym);
+    letters above = letters_of(true, E);
     /* 64 is 2^31 × 2^-25 */
     if (above.t.m != 0 && (above.t.e > -25 || (above.t.e == -25 && above.t.m > 0x80000000u)))
         return (plain_answer){.refusal = 7};
-    letters below = letters_of(false, R, sx, sy, xm, ym);
-    uint64_t xy = 2 * (uint64_t)sx * sy;
-    wide small = ratio(false, square(R), xy), large = ratio(true, square(R), xy);
+    letters below = letters_of(false, E);
+    uint64_t RR = square(E.R), xy = 2 * (uint64_t)E.sx * E.sy;
+    wide small = ratio(false, RR, xy), large = ratio(true, RR, xy);
     wide one = {0x80000000u, -31};
     pair t = {below.t, above.t}, r = {one, one}, total = r;
     for (uint64_t k = 1; k < 256; k++) {
@@ -245,7 +245,7 @@ plain_answer same_begin(plain_session *s, uint32_t R, uint32_t sx, uint32_t sy, 
     wide M = sum(true, sum(true, sum(true, above.u, halved(above.h)), above.X), above.Y);
     put_side(&s->lower, below, small, product(false, below.u, small), total.lower);
     put_side(&s->upper, above, large, product(true, above.u, large), total.upper);
-    s->R = R, s->sx = sx, s->sy = sy, s->xm = xm, s->ym = ym;
+    s->encounter = E;
     s->N = 1;
     s->r256 = narrowed(last.upper);
     s->M = narrowed(M);

@@ -1,11 +1,11 @@
-/* begin and add of the proved library in C, in the same shape: what that shape takes without Rattle. open, read and tests 3
+/* begin and add of the proved library in C, in the same shape: what that shape takes without Rattle. empty, read and tests 3
    to 6 are plain.h's. */
 #ifndef SAME_H
 #define SAME_H
 
 #include "plain.h"
 
-plain_answer same_begin(plain_session *s, uint32_t R, uint32_t sx, uint32_t sy, int32_t xm, int32_t ym);
+plain_answer same_begin(plain_session *s, jinthuol_encounter E);
 plain_answer same_add(plain_session *s, uint16_t count);
 
 #endif

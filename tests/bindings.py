@@ -145,12 +145,13 @@ def scripts(rng):
 
 def call_by_call(name, script, python):
     """The script's first records as calls from Python: every number of the answer and the session. Gives how many."""
-    found, due = python.Session(), Session()
+    found, due = python.Session.empty(), Session()
     calls = 0
     for record in itertools.islice(records.records(script), 100):
         if record.refusal:
             break
-        a = getattr(found, record.kind.call)(*record.inputs)
+        inputs = [python.Encounter(*record.inputs)] if record.kind.call == "begin" else record.inputs
+        a = getattr(found, record.kind.call)(*inputs)
         answer = [a.refusal, a.N, a.lower.m, a.lower.e, a.upper.m, a.upper.e, a.class_]
         numbers = answer + list(found.kept.words)
         expected = fields.answer_numbers(record.called(due))
@@ -185,7 +186,7 @@ def of_scripts(rng, rust):
                 differs(f"by {language}, {name}: {shortened(script.hex(), 300)}", *line)
         calls += call_by_call(name, script, python)
     try:
-        python.Session().begin(1 << 32, 1, 1, 0, 0)
+        python.Session.empty().begin(python.Encounter(R=1 << 32, sx=1, sy=1, xm=0, ym=0))
         sys.exit("bindings: Python takes 2^32 for R")
     except struct.error:
         pass

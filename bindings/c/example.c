@@ -53,9 +53,10 @@ int main(void)
             !within(ym, INT32_MIN, INT32_MAX) || !within(N, 1, 65536)) {
             break;
         }
+        jinthuol_encounter encounter = {(uint32_t)R, (uint32_t)sx, (uint32_t)sy, (int32_t)xm, (int32_t)ym};
         memcpy(lent.guard, unchanged, sizeof unchanged);
-        lent.session = jinthuol_open();
-        print("begin", jinthuol_begin(&lent.session, (uint32_t)R, (uint32_t)sx, (uint32_t)sy, (int32_t)xm, (int32_t)ym));
+        lent.session = jinthuol_empty();
+        print("begin", jinthuol_begin(&lent.session, encounter));
         print("add", jinthuol_add(&lent.session, (uint16_t)(N - 1)));
         print("read", jinthuol_read(lent.session));
         if (memcmp(lent.guard, unchanged, sizeof unchanged) != 0) {

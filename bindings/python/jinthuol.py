@@ -14,11 +14,30 @@ import struct
 import subprocess
 import sys
 from ctypes import POINTER, c_bool, c_char, c_char_p, c_int32, c_size_t, c_uint16, c_uint32
+from typing import NamedTuple
 
 ROOT = pathlib.Path(__file__).resolve().parents[2]
 
 
+class Encounter(NamedTuple):
+    """Combined radius R, larger standard deviation sx, smaller sy, mean miss xm and ym."""
+
+    R: int
+    sx: int
+    sy: int
+    xm: int
+    ym: int
+
+
+class Inputs(ctypes.Structure):
+    """An encounter as the library takes it."""
+
+    _fields_ = [("R", c_uint32), ("sx", c_uint32), ("sy", c_uint32), ("xm", c_int32), ("ym", c_int32)]
+
+
 class Scaled(ctypes.Structure):
+    """m × 2^e."""
+
     _fields_ = [("m", c_uint32), ("e", c_int32)]
 
 
@@ -35,6 +54,8 @@ class Kept(ctypes.Structure):
 
 
 class Listing(ctypes.Structure):
+    """The bytes of the buffer that are used, and whether they are the whole listing."""
+
     _fields_ = [("used", c_size_t), ("ended", c_bool)]
 
 
@@ -50,8 +71,8 @@ def load():
     os.replace(new, shared)
     library = ctypes.CDLL(str(shared))
     for name, result, *arguments in (
-        ("open", Kept),
-        ("begin", Answer, POINTER(Kept), c_uint32, c_uint32, c_uint32, c_int32, c_int32),
+        ("empty", Kept),
+        ("begin", Answer, POINTER(Kept), Inputs),
         ("add", Answer, POINTER(Kept), c_uint16),
         ("read", Answer, Kept),
         ("run", Listing, c_char_p, c_size_t, POINTER(c_char), c_size_t),
@@ -65,15 +86,22 @@ LIBRARY = load()
 
 
 class Session:
-    """One encounter at a time. Each call gives its Answer; a number that does not fit its type raises struct.error."""
+    """One encounter at a time. Each call gives its Answer.
 
-    def __init__(self):
-        self.kept = LIBRARY.jinthuol_open()
+    A number that does not fit its type raises struct.error: ctypes alone would drop the bits that do not fit.
+    """
 
-    def begin(self, R, sx, sy, xm, ym):
-        # ctypes would drop the bits that do not fit.
-        struct.pack("=IIIii", R, sx, sy, xm, ym)
-        return LIBRARY.jinthuol_begin(self.kept, R, sx, sy, xm, ym)
+    def __init__(self, kept):
+        self.kept = kept
+
+    @classmethod
+    def empty(cls):
+        """A session with no encounter begun."""
+        return cls(LIBRARY.jinthuol_empty())
+
+    def begin(self, encounter):
+        packed = struct.pack("=IIIii", *encounter)
+        return LIBRARY.jinthuol_begin(self.kept, Inputs.from_buffer_copy(packed))
 
     def add(self, count):
         struct.pack("=H", count)

@@ -4,14 +4,15 @@
 //! Nothing checks the declarations against the library but the tests.
 
 use crate::script::Listing;
-use crate::session::{Scaled, Session};
+use crate::session::{Encounter, Scaled, Session};
 
 /// The refusal's number, or 0; then the order N, both ends and the class. The class is a number here:
 /// an enum of Rust would trust the library to give no other number than its own.
 #[repr(C)]
+#[allow(non_snake_case)]
 pub struct Answer {
     pub refusal: u32,
-    pub order: u32,
+    pub N: u32,
     pub lower: Scaled,
     pub upper: Scaled,
     pub class: u32,
@@ -21,11 +22,10 @@ pub struct Answer {
 // it is lent. A `Session` came from these calls, since nothing else writes its private field.
 unsafe extern "C" {
     /// Trusts nothing.
-    pub safe fn jinthuol_open() -> Session;
+    pub safe fn jinthuol_empty() -> Session;
 
     /// Trusts that the session came from these calls. Any five numbers will do.
-    #[allow(non_snake_case)]
-    pub safe fn jinthuol_begin(session: &mut Session, R: u32, sx: u32, sy: u32, xm: i32, ym: i32) -> Answer;
+    pub safe fn jinthuol_begin(session: &mut Session, encounter: Encounter) -> Answer;
 
     /// Trusts that the session came from these calls. Any count will do.
     pub safe fn jinthuol_add(session: &mut Session, count: u16) -> Answer;

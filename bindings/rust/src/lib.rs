@@ -4,14 +4,14 @@
 //! calls. It holds of every [`Session`]: safe code gets one only from these calls or as a copy of one.
 //!
 //! ```
-//! use jinthuol::{Class, Refusal, Session};
+//! use jinthuol::{Class, Encounter, Refusal, Session};
 //!
-//! let mut session = Session::open();
-//! assert_eq!(session.begin(500, 5000, 100, 1000, 0), Ok(1));
+//! let mut session = Session::empty();
+//! assert_eq!(session.begin(Encounter { R: 500, sx: 5000, sy: 100, xm: 1000, ym: 0 }), Ok(1));
 //! assert_eq!(session.read(), Err(Refusal(23)));
 //! assert_eq!(session.add(54), Ok(55));
-//! let bracket = session.read()?;
-//! assert_eq!((bracket.order, bracket.class), (55, Class::Alert));
+//! let answer = session.read()?;
+//! assert_eq!((answer.N, answer.class), (55, Class::Alert));
 //! # Ok::<(), Refusal>(())
 //! ```
 //!
@@ -30,4 +30,4 @@ mod script;
 mod session;
 
 pub use script::{run, run_into, Listing};
-pub use session::{Bracket, Class, Refusal, Scaled, Session};
+pub use session::{Answer, Class, Encounter, Refusal, Scaled, Session};

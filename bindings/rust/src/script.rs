@@ -12,7 +12,7 @@ pub struct Listing {
     pub ended: bool,
 }
 
-/// A line is written only while so many bytes of the buffer are left. A line has 89 at most.
+/// A line is written only while so many bytes of the buffer are left.
 const ROOM: usize = 100;
 /// A longer script is refused as 8.
 const LONGEST: usize = 65_536;

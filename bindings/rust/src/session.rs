@@ -14,28 +14,27 @@ pub struct Session {
 
 impl Session {
     /// A session with no encounter begun.
-    pub fn open() -> Session {
-        ffi::jinthuol_open()
+    pub fn empty() -> Session {
+        ffi::jinthuol_empty()
     }
 
-    /// Begins an encounter: combined radius R, larger sigma sx, smaller sigma sy, mean miss xm and
-    /// ym. Gives the order, 1. Refused as 3 to 7, and then the session is as it was.
-    #[allow(non_snake_case)]
-    pub fn begin(&mut self, R: u32, sx: u32, sy: u32, xm: i32, ym: i32) -> Result<u32, Refusal> {
-        Ok(accepted(ffi::jinthuol_begin(self, R, sx, sy, xm, ym))?.order)
+    /// Begins an encounter. Gives the order N, 1. Refused as 3 to 7, and then the session is as it
+    /// was.
+    pub fn begin(&mut self, encounter: Encounter) -> Result<u32, Refusal> {
+        Ok(accepted(ffi::jinthuol_begin(self, encounter))?.N)
     }
 
-    /// Adds terms of the series. Gives the order after it. Refused as 21 or 22, and then the session
+    /// Adds terms of the series. Gives the order N after it. Refused as 21 or 22, and then the session
     /// is as it was.
     pub fn add(&mut self, count: u16) -> Result<u32, Refusal> {
-        Ok(accepted(ffi::jinthuol_add(self, count))?.order)
+        Ok(accepted(ffi::jinthuol_add(self, count))?.N)
     }
 
     /// The bracket at the session's order. Refused as 21 or 23.
-    pub fn read(&self) -> Result<Bracket, Refusal> {
+    pub fn read(&self) -> Result<Answer, Refusal> {
         let answer = accepted(ffi::jinthuol_read(self.clone()))?;
-        Ok(Bracket {
-            order: answer.order,
+        Ok(Answer {
+            N: answer.N,
             lower: answer.lower,
             upper: answer.upper,
             class: match answer.class {
@@ -54,6 +53,23 @@ fn accepted(answer: ffi::Answer) -> Result<ffi::Answer, Refusal> {
     }
 }
 
+/// The inputs, in whole centimetres.
+#[repr(C)]
+#[allow(non_snake_case)]
+#[derive(Clone, Copy, Debug, PartialEq, Eq)]
+pub struct Encounter {
+    /// The combined radius.
+    pub R: u32,
+    /// The larger standard deviation.
+    pub sx: u32,
+    /// The smaller standard deviation.
+    pub sy: u32,
+    /// The mean miss along x.
+    pub xm: i32,
+    /// The mean miss along y.
+    pub ym: i32,
+}
+
 /// m × 2^e: m from 2^31 to 2^32 − 1, or zero as m = 0 and e = 0.
 #[repr(C)]
 #[derive(Clone, Copy, Debug, PartialEq, Eq)]
@@ -64,11 +80,13 @@ pub struct Scaled {
     pub e: i32,
 }
 
-/// The two ends that a read answers.
+/// What a read answers where it is not refused. Elsewhere the answer has the refusal's number too;
+/// here a [`Refusal`] has it.
+#[allow(non_snake_case)]
 #[derive(Clone, Copy, Debug, PartialEq, Eq)]
-pub struct Bracket {
-    /// The order N: how many terms were summed.
-    pub order: u32,
+pub struct Answer {
+    /// The order: how many terms were summed.
+    pub N: u32,
     /// The lower end.
     pub lower: Scaled,
     /// The upper end.

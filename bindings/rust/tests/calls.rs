@@ -1,33 +1,32 @@
 //! Document 01's encounters and refusals through begin, add and read.
+#![allow(non_snake_case)]
 
-use jinthuol::{Bracket, Class, Refusal, Scaled, Session};
+use jinthuol::{Answer, Class, Encounter, Refusal, Scaled, Session};
 
-type Encounter = (u32, u32, u32, i32, i32);
-
-const HALF: Encounter = (10, 10, 10, 0, 0);
-const FULL: Encounter = (8, 1, 1, 8, 0);
-const TEST_1: Encounter = (500, 5000, 100, 1000, 0);
-const ALFANO_3: Encounter = (1500, 11425, 141, 15, -388);
-const ALFANO_5: Encounter = (1000, 17781, 3, 212, -122);
+const HALF: Encounter = of(10, 10, 10, 0, 0);
+const FULL: Encounter = of(8, 1, 1, 8, 0);
+const TEST_1: Encounter = of(500, 5000, 100, 1000, 0);
+const ALFANO_3: Encounter = of(1500, 11425, 141, 15, -388);
+const ALFANO_5: Encounter = of(1000, 17781, 3, 212, -122);
 const LARGEST: u32 = 10_000_000;
 const PAST: u32 = LARGEST + 1;
 const MISS: i32 = 10_000_000;
 
-fn begin(session: &mut Session, (radius, sx, sy, xm, ym): Encounter) -> Result<u32, Refusal> {
-    session.begin(radius, sx, sy, xm, ym)
+const fn of(R: u32, sx: u32, sy: u32, xm: i32, ym: i32) -> Encounter {
+    Encounter { R, sx, sy, xm, ym }
 }
 
-/// A session of the encounter at the order.
-fn at(encounter: Encounter, order: u16) -> Session {
-    let mut session = Session::open();
-    assert_eq!(begin(&mut session, encounter), Ok(1), "{encounter:?}");
-    assert_eq!(session.add(order - 1), Ok(order.into()), "{encounter:?}");
+/// A session of the encounter at order N.
+fn at(encounter: Encounter, N: u16) -> Session {
+    let mut session = Session::empty();
+    assert_eq!(session.begin(encounter), Ok(1), "{encounter:?}");
+    assert_eq!(session.add(N - 1), Ok(N.into()), "{encounter:?}");
     session
 }
 
-fn bracket(order: u32, lower: (u32, i32), upper: (u32, i32), class: Class) -> Bracket {
+fn answer(N: u32, lower: (u32, i32), upper: (u32, i32), class: Class) -> Answer {
     let scaled = |(m, e)| Scaled { m, e };
-    Bracket { order, lower: scaled(lower), upper: scaled(upper), class }
+    Answer { N, lower: scaled(lower), upper: scaled(upper), class }
 }
 
 #[test]
@@ -38,33 +37,33 @@ fn sizes() {
 #[test]
 fn begins() {
     for (encounter, refusal) in [
-        ((0, 1, 1, 0, 0), 3),
-        ((PAST, LARGEST, LARGEST, 0, 0), 3),
-        ((u32::MAX, 0, 0, i32::MIN, i32::MAX), 3),
-        ((1, 0, 1, 0, 0), 4),
-        ((1, 1, 0, 0, 0), 4),
-        ((1, PAST, 1, 0, 0), 4),
-        ((1, PAST, PAST, MISS + 1, 0), 4),
-        ((1, 1, 2, MISS + 1, 0), 5),
-        ((7, 7, 8, 0, 0), 5),
-        ((1, 1, 1, MISS + 1, 0), 6),
-        ((1, 1, 1, -MISS - 1, 0), 6),
-        ((1, 1, 1, 0, MISS + 1), 6),
-        ((LARGEST, 1, 1, 0, i32::MIN), 6),
-        ((8, 1, 1, 8, 1), 7),
-        ((LARGEST, 1, 1, MISS, -MISS), 7),
+        (of(0, 1, 1, 0, 0), 3),
+        (of(PAST, LARGEST, LARGEST, 0, 0), 3),
+        (of(u32::MAX, 0, 0, i32::MIN, i32::MAX), 3),
+        (of(1, 0, 1, 0, 0), 4),
+        (of(1, 1, 0, 0, 0), 4),
+        (of(1, PAST, 1, 0, 0), 4),
+        (of(1, PAST, PAST, MISS + 1, 0), 4),
+        (of(1, 1, 2, MISS + 1, 0), 5),
+        (of(7, 7, 8, 0, 0), 5),
+        (of(1, 1, 1, MISS + 1, 0), 6),
+        (of(1, 1, 1, -MISS - 1, 0), 6),
+        (of(1, 1, 1, 0, MISS + 1), 6),
+        (of(LARGEST, 1, 1, 0, i32::MIN), 6),
+        (of(8, 1, 1, 8, 1), 7),
+        (of(LARGEST, 1, 1, MISS, -MISS), 7),
         (ALFANO_5, 7),
-        ((LARGEST, LARGEST, LARGEST, MISS, -MISS), 0),
-        ((7, 7, 7, 0, 0), 0),
-        ((1, LARGEST, 1, 0, 0), 0),
+        (of(LARGEST, LARGEST, LARGEST, MISS, -MISS), 0),
+        (of(7, 7, 7, 0, 0), 0),
+        (of(1, LARGEST, 1, 0, 0), 0),
         (HALF, 0),
         (FULL, 0),
     ] {
         let due = if refusal == 0 { Ok(1) } else { Err(Refusal(refusal)) };
         // First on an empty session, then over an earlier encounter.
-        for earlier in [Session::open(), at(TEST_1, 55)] {
+        for earlier in [Session::empty(), at(TEST_1, 55)] {
             let mut session = earlier.clone();
-            assert_eq!(begin(&mut session, encounter), due, "{encounter:?}");
+            assert_eq!(session.begin(encounter), due, "{encounter:?}");
             if refusal == 0 {
                 assert_eq!(session, at(encounter, 1), "{encounter:?}");
             } else {
@@ -77,12 +76,12 @@ fn begins() {
 
 #[test]
 fn no_encounter_begun() {
-    let mut session = Session::open();
+    let mut session = Session::empty();
     for count in [0, 1, 4095, u16::MAX] {
         assert_eq!(session.add(count), Err(Refusal(21)));
     }
     assert_eq!(session.read(), Err(Refusal(21)));
-    assert_eq!(session, Session::open());
+    assert_eq!(session, Session::empty());
 }
 
 #[test]
@@ -99,7 +98,7 @@ fn orders() {
     assert_eq!(session.add(4095), Ok(4096));
     assert_eq!(session.add(1), Err(Refusal(22)));
     assert_eq!(session.add(0), Ok(4096));
-    assert_eq!(session.read().map(|b| b.order), Ok(4096));
+    assert_eq!(session.read().map(|a| a.N), Ok(4096));
     // Terms in two adds are those of one.
     let mut session = at(TEST_1, 30);
     assert_eq!(session.add(71), Ok(101));
@@ -113,20 +112,20 @@ fn test_23() {
         if least > 1 {
             assert_eq!(at(encounter, least - 1).read(), Err(Refusal(23)), "{encounter:?}");
         }
-        assert_eq!(at(encounter, least).read().map(|b| b.order), Ok(least.into()), "{encounter:?}");
+        assert_eq!(at(encounter, least).read().map(|a| a.N), Ok(least.into()), "{encounter:?}");
     }
 }
 
 #[test]
 fn brackets() {
-    let due = bracket(1, (2605029163, -33), (3907544026, -33), Class::Alert);
+    let due = answer(1, (2605029163, -33), (3907544026, -33), Class::Alert);
     assert_eq!(at(HALF, 1).read(), Ok(due));
-    let due = bracket(55, (2627622691, -35), (2627623074, -35), Class::Alert);
+    let due = answer(55, (2627622691, -35), (2627623074, -35), Class::Alert);
     assert_eq!(at(TEST_1, 55).read(), Ok(due));
-    let read = at((1000, 300_000, 100_000, 100_000, 0), 49).read();
-    assert_eq!(read.map(|b| b.class), Ok(Class::Clear));
-    for order in [2110, 4096] {
-        assert_eq!(at(FULL, order).read(), at((8, 1, 1, -8, 0), order).read());
+    let read = at(of(1000, 300_000, 100_000, 100_000, 0), 49).read();
+    assert_eq!(read.map(|a| a.class), Ok(Class::Clear));
+    for N in [2110, 4096] {
+        assert_eq!(at(FULL, N).read(), at(of(8, 1, 1, -8, 0), N).read());
     }
 }
 
@@ -137,9 +136,9 @@ fn a_clone_is_a_session_of_its_own() {
     assert_eq!(other, session);
     assert_eq!(other.add(19), Ok(55));
     assert_eq!(session, at(TEST_1, 36));
-    assert_eq!(begin(&mut session, HALF), Ok(1));
+    assert_eq!(session.begin(HALF), Ok(1));
     assert_eq!(other, at(TEST_1, 55));
-    assert_eq!((session.read().map(|b| b.order), other.read().map(|b| b.order)), (Ok(1), Ok(55)));
+    assert_eq!((session.read().map(|a| a.N), other.read().map(|a| a.N)), (Ok(1), Ok(55)));
 }
 
 #[test]

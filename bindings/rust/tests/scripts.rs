@@ -1,6 +1,6 @@
 //! Listings: of examples/, by the calls, in buffers of every small size, and of the longest scripts.
 
-use jinthuol::{run, run_into, Class, Listing, Refusal, Session};
+use jinthuol::{run, run_into, Class, Encounter, Listing, Refusal, Session};
 use std::fs;
 use std::path::Path;
 
@@ -21,7 +21,7 @@ fn examples() -> Vec<(String, Vec<u8>, Vec<u8>)> {
 
 /// The listing, made from the answers to begin, add and read.
 fn by_calls(script: &[u8]) -> String {
-    let mut session = Session::open();
+    let mut session = Session::empty();
     let mut text = String::new();
     let mut position = 0;
     while let Some(kind) = script.get(position) {
@@ -36,16 +36,17 @@ fn by_calls(script: &[u8]) -> String {
             Some(None) => Err(Refusal(2)),
             Some(Some([1, body @ ..])) => {
                 let word = |k: usize| u32::from_le_bytes(body[4 * k..4 * k + 4].try_into().unwrap());
-                let begun = session.begin(word(0), word(1), word(2), word(3) as i32, word(4) as i32);
-                begun.map(|order| format!("begun {order}"))
+                let signed = |k| word(k) as i32;
+                let encounter = Encounter { R: word(0), sx: word(1), sy: word(2), xm: signed(3), ym: signed(4) };
+                session.begin(encounter).map(|n| format!("begun {n}"))
             }
             Some(Some([2, body @ ..])) => {
                 let added = session.add(u16::from_le_bytes(body.try_into().unwrap()));
-                added.map(|order| format!("added {order}"))
+                added.map(|n| format!("added {n}"))
             }
-            Some(Some(_)) => session.read().map(|b| {
-                let class = if b.class == Class::Alert { "alert" } else { "clear" };
-                format!("read {} {} {} {} {} {class}", b.order, b.lower.m, b.lower.e, b.upper.m, b.upper.e)
+            Some(Some(_)) => session.read().map(|a| {
+                let class = if a.class == Class::Alert { "alert" } else { "clear" };
+                format!("read {} {} {} {} {} {class}", a.N, a.lower.m, a.lower.e, a.upper.m, a.upper.e)
             }),
         };
         let last = matches!(answer, Err(Refusal(1 | 2)));
