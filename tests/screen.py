@@ -4,8 +4,8 @@
     python3 tests/screen.py [--screen PROGRAM] [--seed N]
 
 The scripts: those of edges.py with their listings, those of examples/, the begins of edges.py, freshly drawn ones, one
-cut short at every length, wrong ones, the longest ones, and some that come in small pieces. Then the encounters of
-documents 000 and 003: the exact quotients are between the ends that `screen` prints.
+cut short at every length, wrong ones, the longest ones, and some that come in small pieces. Then reads and writes that
+fail, and the encounters of documents 000 and 003: the exact quotients are between the ends that `screen` prints.
 Exits with 1 where anything differs.
 """
 
@@ -233,6 +233,25 @@ def of_pipes(rng):
 # The encounters of documents 000 and 003.
 
 
+UNREAD = "screen: the script could not be read\n"
+UNWRITTEN = "screen: the listing could not be written\n"
+
+
+def streams(stdin, stdout):
+    """What `screen` writes to standard output, where that is read, and to standard error; it has no exit status."""
+    ended = subprocess.run([program], stdin=stdin, stdout=stdout, stderr=subprocess.PIPE, timeout=LONGEST_RUN)
+    return (ended.stdout or b"").decode("latin-1"), ended.stderr.decode("latin-1")
+
+
+def of_failures():
+    """A read that fails is not the script's end, and a write that fails is told."""
+    folder = os.open(options.ROOT, os.O_RDONLY)
+    check(streams(folder, subprocess.PIPE) == ("", UNREAD), "standard input is a folder")
+    os.close(folder)
+    with open(EXAMPLES / "test-1.script", "rb") as script, open("/dev/full", "wb") as full:
+        check(streams(script, full) == ("", UNWRITTEN), "standard output is full")
+
+
 def of_documents(name, encounter):
     """One encounter: reads at every order. The refusal that is due, or the exact quotients between the ends."""
     failures = checks.failures
@@ -280,6 +299,7 @@ def main():
     of_classes()
     of_cut_short(rng)
     of_pipes(rng)
+    of_failures()
     for name, encounter in DOCUMENTS.items():
         of_documents(name, encounter)
     seen = {int(r) for r in refusals_seen if r.isdecimal()}
