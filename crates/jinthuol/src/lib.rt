@@ -32,7 +32,7 @@ pub struct Called {
 
 // The bytes of the buffer that are used, and whether they are the whole listing.
 #[repr(C)]
-pub struct Run {
+pub struct Listing {
     pub used: usize,
     pub ended: bool,
 }
@@ -124,18 +124,18 @@ pub extern "C" fn jinthuol_read(session: Session) -> Answer
 
 // The listing of a script, as far as the buffer has room for it.
 #[no_mangle]
-pub extern "C" fn jinthuol_run(script: &[u8], out: &mut [u8]) -> Run
+pub extern "C" fn jinthuol_run(script: &[u8], out: &mut [u8]) -> Listing
     ensures { λ r. ⌜ RunOf (now (script .entry)) (now (out .entry)) (now (out .exit)) r ⌝ }
 {
     if LARGEST_SCRIPT < script.len() {
         let used = put_too_long(out);
-        return Run {
+        return Listing {
             used,
             ended: 0 < used,
         };
     }
     let piece = put_lines(script, 0, Session::empty(), out);
-    Run {
+    Listing {
         used: piece.used,
         ended: piece.ended,
     }
