@@ -5,7 +5,7 @@ use Prim.Native.Nat.{ℕ, _+_}
 use lib.Dec.{eqb}
 use lib.ListN.{getD}
 use Rattle.exact.specs.declared.Encounter.{Encounter}
-use Rattle.exact.specs.Records.{body, Request, begin, add, read, bad}
+use Rattle.exact.specs.Records.{body-length, Request, begin, add, read, bad}
 use Rattle.exact.specs.Refusals.{refuses-1, refuses-2, request-at, History, no-encounter, encounter-at, refusal}
 use Rattle.encounter.specs.declared.state.Session.{Session}
 use Rattle.encounter.specs.declared.state.Answer.{Answer}
@@ -17,16 +17,16 @@ use Rattle.encounter.specs.Session.{empty, state, refused, counted, brac
 
 -- after an accepted request: "The encounter of an accepted read is that of the last begin accepted before it. From that begin on, the order N is 1 plus the
 -- terms that the accepted calls have added so far; an add adds its count." (An add with no encounter is refused as 21.)
-abbrev pub taken : History → Request → History
-taken w (begin E) = encounter-at E 1
-taken no-encounter (add count) = no-encounter
-taken (encounter-at E N) (add count) = encounter-at E (N + count)
-taken w read = w
-taken w (bad r) = w
+abbrev pub history-after : History → Request → History
+history-after w (begin E) = encounter-at E 1
+history-after no-encounter (add count) = no-encounter
+history-after (encounter-at E N) (add count) = encounter-at E (N + count)
+history-after w read = w
+history-after w (bad r) = w
 
 -- "Refused calls stand in the list too": they leave the history as it was
 abbrev pub follow : History → Request → History
-follow w q = cond (eqb (refusal w q) 0) (taken w q) w
+follow w q = cond (eqb (refusal w q) 0) (history-after w q) w
 
 -- the session of a history
 abbrev pub session-of : History → Session
@@ -63,11 +63,12 @@ refusing r s = record { answer = refused r; session = s }
 -- what a request is answered, and the session after it, where the history tells w and the session is s
 unfoldable pub outcome : History → Request → Session → Called
 outcome w q s =
-    cond (eqb (refusal w q) 0) (record { answer = accepted-answer q (taken w q); session = session-of (taken w q) }) (refusing (refusal w q) s)
+    cond (eqb (refusal w q) 0) (record { answer = accepted-answer q (history-after w q); session = session-of (history-after w q) }) (refusing (refusal w q) s)
 
 -- ---- the calls
 
--- the calls of the library: a record is given by the script's bytes and a position
+-- the calls of the library: a record is given by the script's bytes and a position. Counts, bytes and positions are any whole numbers, so every caller's are among
+-- them
 pub data Call : Type 0 where
   begins : Encounter → Call
   adds : ℕ → Call
@@ -86,7 +87,7 @@ call c s = outcome (history-of s) (asked c) s
 
 -- the position past a record; after refusal 1 or 2 the record's own, since the script ends there
 unfoldable pub next-at : List ℕ → ℕ → ℕ
-next-at l i = cond (refuses-1 l i || refuses-2 l i) i (i + 1 + body (getD l i 0))
+next-at l i = cond (refuses-1 l i || refuses-2 l i) i (i + 1 + body-length (getD l i 0))
 
 -- the call of the record at a position of a script
 unfoldable pub record-call : List ℕ → ℕ → Session → Taken

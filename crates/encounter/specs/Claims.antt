@@ -1,18 +1,18 @@
 -- What a reader relies on beyond the contracts: one record of statements, each proved. `Session::empty` promises it, so that none can be dropped or weakened.
 use mathlib.Core.Path.{_≡_}
 use mathlib.Core.Bool.{Bool}
-use Prim.Native.Nat.{ℕ, suc, _-_, _*_, _<_}
+use Prim.Native.Nat.{ℕ, suc, _-_, _*_, _≤_, _<_}
 use lib.IntN.{pos, _-ℤ_}
 use Rattle.exact.specs.declared.Encounter.{Encounter}
 use Rattle.exact.specs.declared.Scaled.{Scaled}
 use Rattle.exact.specs.Fraction.{Frac, _≈_, _⊗_, _÷_, whole, sum}
 use Rattle.exact.specs.Private.Round.{round}
-use Rattle.exact.specs.Scaled.{IsRound}
+use Rattle.exact.specs.Scaled.{IsRound, value, half, double}
 use Rattle.exact.specs.Series.{mirrored, u, g, h, X, Y, t, F, a₀, a, c, series, exponential}
-use Rattle.exact.specs.Steps.{same, letters, terms, powers}
-use Rattle.exact.specs.Refusals.{Accepted}
-use Rattle.encounter.specs.Session.{empty, state}
-use Rattle.encounter.specs.Calls.{begins, reads, call}
+use Rattle.exact.specs.Steps.{same, letters, terms, powers, bound}
+use Rattle.encounter.specs.declared.state.Session.{Session}
+use Rattle.encounter.specs.Session.{state}
+use Rattle.encounter.specs.Calls.{begins, adds, reads, call}
 use Rattle.encounter.specs.Stars.{stars, All}
 
 -- "Document 001, section III, in these scaled letters": the rounded steps, with no rounding, are the exact series
@@ -21,17 +21,23 @@ pub record Unrounded (E : Encounter) : Type 0 where
   pub terms-are : (n : ℕ) → terms same same (letters same same E) (a₀ E) n .c ≈ c E n
   pub sums-are : (n : ℕ) → terms same same (letters same same E) (a₀ E) n .sum ≈ series E (suc n)
   pub exponentials-are : (k : ℕ) → powers same same (whole 1) (t E) k .sum ≈ exponential E (suc k)
+  -- M is F(0)
+  pub bound-is : bound same same (letters same same E) ≈ F E 0
 
 pub record Claims : Type 0 where
   -- "D(q) is the greatest scaled number not above [..] q. U(q) is the least one not below it": round computes them, and there is no other
   pub rounding : (up : Bool) (bits : ℕ) (q : Frac) → 0 < bits → IsRound up bits q (round up bits q) × ((x : Scaled) → IsRound up bits q x → x ≡ round up bits q)
+  -- "Halving and doubling are exact."
+  pub halving : (x : Scaled) → value (half x) ≈ value x ÷ 2
+  pub doubling : (x : Scaled) → value (double x) ≈ whole 2 ⊗ value x
   -- "a(n+1) = (F(0)a(n) + .. + F(n)a(0))/(n+1)"
   pub recurrence : (E : Encounter) (n : ℕ) → a E (suc n) ≈ sum (λ k. F E k ⊗ a E (n - k)) (suc n) ÷ suc n
   -- "signed where something is subtracted": g's numerator is the integer sx² − sy²
-  pub g-sign : (E : Encounter) → Accepted E → pos (g E .num) ≡ pos (E .sx * E .sx) -ℤ pos (E .sy * E .sy)
+  pub g-sign : (E : Encounter) → E .sy ≤ E .sx → pos (g E .num) ≡ pos (E .sx * E .sx) -ℤ pos (E .sy * E .sy)
   pub unrounded : (E : Encounter) → Unrounded E
   -- the cases marked ★
   pub star-cases : All stars
-  -- "xm = −8 in place of 8: the same answers", for every encounter and order
-  pub mirror-begin : (E : Encounter) → call (begins (mirrored E)) empty .answer ≡ call (begins E) empty .answer
+  -- "xm = −8 in place of 8: the same answers", for every encounter, session, order and count
+  pub mirror-begin : (E : Encounter) (s : Session) → call (begins (mirrored E)) s .answer ≡ call (begins E) s .answer
+  pub mirror-add : (E : Encounter) (N count : ℕ) → call (adds count) (state (mirrored E) N) .answer ≡ call (adds count) (state E N) .answer
   pub mirror-read : (E : Encounter) (N : ℕ) → call reads (state (mirrored E) N) .answer ≡ call reads (state E N) .answer

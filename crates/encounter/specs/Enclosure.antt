@@ -44,7 +44,7 @@ pub record Encloses (E : Encounter) (N : ℕ) (a : Answer) : Type 0 where
 
 -- what holds of a place
 pub record Claim (p : Place) : Type 0 where
-  -- demand 1: "Each refusal bears one of the numbers in document 01, falls under the condition written there and never otherwise"
+  -- demand 1, which the next line implies: "Each refusal bears one of the numbers in document 01, falls under the condition written there and never otherwise"
   pub number : p .answer .refusal ≡ refusal (p .history) (p .request)
   -- demands 1 and 2: the whole answer and every stored number are those that the history tells
   pub answer : p .answer ≡ outcome (p .history) (p .request) (session-of (p .history)) .answer
@@ -57,6 +57,7 @@ abbrev pub Every : (Place → Type 0) → List Place → Type 0
 Every P [] = Unit {0}
 Every P (p ∷ l) = P p × Every P l
 
--- "For every list of begins, adds and reads on one session from empty, refused ones included"
+-- "For every list of begins, adds and reads on one session from empty, refused ones included". `read` promises it (src/calls.rt); that code makes these very calls is
+-- what the other promises of begin, add, read and the record call say
 unfoldable pub Demands : Type 0
 Demands = (cs : List Call) → Every Claim (places empty no-encounter cs)

@@ -54,11 +54,11 @@ state E N = record { encounter = E; N = N; lower = side false E N; upper = side 
 abbrev pub refused : ℕ → Answer
 refused r = record { refusal = r; N = 0; lower = nought; upper = nought; class = Clear }
 
--- An accepted begin or add answers the order after it. The paper leaves its other fields free: they are those of a refusal.
+-- An accepted begin or add answers the order after it. The paper leaves its other fields free: both ends are zero and the class is clear.
 abbrev pub counted : ℕ → Answer
 counted N = record { refusal = 0; N = N; lower = nought; upper = nought; class = Clear }
 
--- "alert where lower end × 10,000 ≥ 1, else clear"; the class is a function of both ends
+-- "alert where lower end × 10,000 ≥ 1, else clear": of the two ends, the lower one decides
 unfoldable pub class-of : (lower upper : Scaled) → Class
 class-of lower upper = cond (alert lower) Alert Clear
 

@@ -1,5 +1,5 @@
 -- Document 01, 'Encounters on each edge': the cases marked ★, one table, and beside them the exact letters of one encounter with unequal sigmas and two misses,
--- which no ★ encounter has. `All stars` is one statement (claim `star-cases`).
+-- which no ★ encounter has, with some of its rounded numbers and its ends at N = 3. `All stars` is one statement (claim `star-cases`).
 use mathlib.Core.Path.{_≡_}
 use mathlib.Core.Bool.{true, false}
 use mathlib.Core.List.{List, [], _∷_}
@@ -9,8 +9,8 @@ use Rattle.exact.specs.declared.Encounter.{Encounter}
 use Rattle.exact.specs.declared.Scaled.{Scaled}
 use Rattle.exact.specs.Fraction.{Frac, _≈_, _over_, _⊗_, whole}
 use Rattle.exact.specs.Scaled.{scaled, nought, value, D, U}
-use Rattle.exact.specs.Series.{mirrored, u, b, zx, zy, g, h, X, Y, t, F, a₀, c, series, exponential}
-use Rattle.exact.specs.Steps.{side-letters, side-start, side-terms, M, tail-bound}
+use Rattle.exact.specs.Series.{u, b, zx, zy, g, h, X, Y, t, F, c, series, exponential}
+use Rattle.exact.specs.Steps.{side-letters, side-start, side-terms, M, d, tail-bound, lower-end, upper-end}
 use Rattle.encounter.specs.declared.state.Answer.{Answer}
 use Rattle.encounter.specs.Session.{empty, state}
 use Rattle.encounter.specs.Calls.{begins, reads, call}
@@ -104,7 +104,7 @@ stars =
     ∷ answer-is (call (begins E₄) empty .answer) (call (begins E₂) empty .answer)
     ∷ answer-is (call reads (state E₄ 2109) .answer) (call reads (state E₂ 2109) .answer)
     ∷ answer-is (call reads (state E₄ 2110) .answer) (call reads (state E₂ 2110) .answer)
-    -- (6, 10, 5, 7, −4): no ★ case of the paper, but its letters by hand
+    -- (6, 10, 5, 7, −4): no ★ case of the paper; its letters by hand, its rounded numbers by the reference in Python
     ∷ fraction-is (u E₅) (18 over 25)
     ∷ fraction-is (b E₅) (9 over 50)
     ∷ fraction-is (zx E₅) (49 over 200)
@@ -121,4 +121,10 @@ stars =
     ∷ fraction-is (c E₅ 2) (27729459 over 400000000)
     ∷ fraction-is (series E₅ 3) (262773459 over 400000000)
     ∷ fraction-is (exponential E₅ 3) (248849 over 80000)
+    ∷ scaled-is (M E₅) (scaled 2715493075 (negsuc 30))
+    ∷ scaled-is (d E₅ 3) (scaled 4168286877 (negsuc 36))
+    ∷ scaled-is (side-terms false E₅ 2 .c) (scaled 2381942388 (negsuc 34))
+    ∷ scaled-is (side-terms true E₅ 2 .c) (scaled 2381942396 (negsuc 34))
+    ∷ scaled-is (lower-end E₅ 3) (scaled 3122287721 (negsuc 33))
+    ∷ scaled-is (upper-end E₅ 3) (scaled 3410577687 (negsuc 33))
     ∷ []

@@ -77,6 +77,7 @@ impl Session {
     }
 }
 
+// Begins an encounter: refused as 3 to 7, else at order N = 1.
 pub fn begin(s: Session, E: Encounter) -> Called
     requires { ⌜ Reached s ⌝ }
     ensures { λ r. ⌜ (r ≡ call (begins E) s) × Reached (r .session) ⌝ }
@@ -116,6 +117,7 @@ fn later_side(s: Side, terms: Terms) -> Side
     }
 }
 
+// Adds terms: refused as 21 or 22.
 pub fn add(s: Session, count: u16) -> Called
     requires { ⌜ Reached s ⌝ }
     ensures { λ r. ⌜ (r ≡ call (adds count) s) × Reached (r .session) ⌝ }
@@ -148,6 +150,7 @@ pub fn add(s: Session, count: u16) -> Called
     }
 }
 
+// The bracket at the session's order: refused as 21 or 23.
 pub fn read(s: Session) -> Answer
     requires { ⌜ Reached s ⌝ }
     ensures { λ r. ⌜ r ≡ call reads s .answer ⌝ }

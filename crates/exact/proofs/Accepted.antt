@@ -76,10 +76,9 @@ facts {E} h =
     let (b, r) = bounds E (cond (refuses-7 E) 7 0) (h .passes) in
     record { bounds = b; t-max = not-above _ _ (passed 6 (refuses-7 E) 0 r .0) }
 
--- "signed where something is subtracted": for every accepted encounter g's numerator is the integer sx² − sy²
-pub g-is : {E : Encounter} → Accepted E → pos (g E .num) ≡ pos (E .sx * E .sx) -ℤ pos (E .sy * E .sy)
+-- "signed where something is subtracted": where sy is at most sx, g's numerator is the integer sx² − sy²
+pub g-is : (E : Encounter) → E .sy ≤ E .sx → pos (g E .num) ≡ pos (E .sx * E .sx) -ℤ pos (E .sy * E .sy)
 unfolding g _over_
-g-is {E} h =
-    let f = facts h .bounds in
-    let l = mul-le-mul (f .ordered) (f .ordered) in
+g-is E h =
+    let l = mul-le-mul h h in
     balanced _ _ (omega (arith, bal-diff (pos (E .sx * E .sx)) (pos (E .sy * E .sy))))

@@ -1,10 +1,11 @@
 -- The steps with no rounding are the exact series and the exact exponential.
 use mathlib.Core.Path.{_≡_, refl}
 use Prim.Native.Nat.{ℕ, zero, suc}
-use Rattle.exact.specs.Fraction.{Frac, _≈_, _⊗_, _÷_, _↑_, whole, sum}
+use native.Mathlib.Omega.{arith}
+use Rattle.exact.specs.Fraction.{Frac, _≈_, _⊕_, _⊗_, _÷_, _↑_, whole, sum}
 use Rattle.exact.specs.declared.Encounter.{Encounter}
-use Rattle.exact.specs.Series.{u, h, X, Y, t, a₀, factorial, c, exponential-term}
-use Rattle.exact.specs.Steps.{same, LettersOf, TermsOf, PowersOf, add, mul, div, letters, first, next-c, next-p, next-v, next-y, next, terms, next-power, powers}
+use Rattle.exact.specs.Series.{u, h, X, Y, t, a₀, factorial, c, exponential-term, F-without-Y, F}
+use Rattle.exact.specs.Steps.{same, bound, LettersOf, TermsOf, PowersOf, add, mul, div, letters, first, next-c, next-p, next-v, next-y, next, terms, next-power, powers}
 use Rattle.exact.proofs.Fractions.{≈-refl, ≈-sym, ≈-trans, cong, add-cong, mul-cong, div-cong, zero-add, mul-comm, div-mul}
 use Rattle.exact.proofs.ExactTerms.{p, v, y, p-zero, v-zero, y-zero, c-zero, p-suc, v-suc, y-suc, c-suc, factorial-step}
 
@@ -56,6 +57,18 @@ module _ (E : Encounter) where
 
   pub sum-is : (n : ℕ) → terms same same (exact-letters E) (a₀ E) n .sum ≈ sum (c E) (suc n)
   sum-is n = terms-are n .sum-is
+
+-- M with no rounding is F(0)
+mul-one : (p : Frac) → p ⊗ whole 1 ≈ p
+unfolding _⊗_ whole
+mul-one p = record { eq = omega arith }
+
+ones : (p q r s : Frac) → p ⊗ whole 1 ⊕ q ⊗ whole 1 ÷ 2 ⊕ r ⊗ whole 1 ⊗ whole 1 ⊕ s ≈ p ⊕ q ÷ 2 ⊕ r ⊕ s
+ones p q r s = grw (cong, mul-one p, mul-one q, mul-one (r ⊗ whole 1), mul-one r) (≈-refl _)
+
+pub bound-is : (E : Encounter) → bound same same (exact-letters E) ≈ F E 0
+unfolding bound add F F-without-Y _↑_
+bound-is E = ≈-sym (ones (u E) (h E) (X E) (Y E))
 
 -- t^(k+1)/(k+1)! is t^k/k! × t/(k+1)
 pub power-step : (t : Frac) (k : ℕ) → exponential-term t (suc k) ≈ exponential-term t k ⊗ t ÷ suc k

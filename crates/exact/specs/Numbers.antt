@@ -1,4 +1,4 @@
--- The limits that document 01 sets, each once. src/lib.rt has the same for code.
+-- The limits that document 01 sets, each once. src/lib.rt has the same for code, but for the last, which code has as the scaled number U(1/10,000).
 use Prim.Native.Nat.{ℕ}
 
 -- centimetres: tests 3, 4 and 6

@@ -12,8 +12,8 @@ unfoldable pub is-kind : ℕ → Bool
 is-kind kind = eqb kind 1 || (eqb kind 2 || eqb kind 3)
 
 -- the bytes of a body: "Kind 1, begin: 20 bytes", "Kind 2, add: a 16-bit count of terms", "Kind 3, read: no body"
-unfoldable pub body : ℕ → ℕ
-body kind = cond (eqb kind 1) 20 (cond (eqb kind 2) 2 0)
+unfoldable pub body-length : ℕ → ℕ
+body-length kind = cond (eqb kind 1) 20 (cond (eqb kind 2) 2 0)
 
 -- "numbers little-endian"
 abbrev pub u16-at : List ℕ → ℕ → ℕ
@@ -30,7 +30,7 @@ signed n = cond (ltb n 2147483648) (pos n) (negsuc (4294967295 - n))
 abbrev pub begin-at : List ℕ → ℕ → Encounter
 begin-at l i = record { R = u32-at l i; sx = u32-at l (i + 4); sy = u32-at l (i + 8); xm = signed (u32-at l (i + 12)); ym = signed (u32-at l (i + 16)) }
 
--- what a call asks for; `bad` is a record that is refused as 1 or 2
+-- what a call asks for; `bad r` is a record that is refused as r, which is 1 or 2
 pub data Request : Type 0 where
   begin : Encounter → Request
   add : ℕ → Request

@@ -11,7 +11,7 @@ use Rattle.exact.specs.Fraction.{whole, _⊗_, above}
 use Rattle.exact.specs.Numbers.{largest-length, largest-t, largest-order, largest-script}
 use Rattle.exact.specs.Scaled.{value}
 use Rattle.exact.specs.Steps.{side-letters, M}
-use Rattle.exact.specs.Records.{is-kind, body, Request, begin, add, read, bad, request-of}
+use Rattle.exact.specs.Records.{is-kind, body-length, Request, begin, add, read, bad, request-of}
 
 -- ---- "From the input, tested in this order:"
 
@@ -26,7 +26,7 @@ module _ (script : List ℕ) (position : ℕ) where
 
   -- 2: body shorter than its kind needs
   unfoldable pub refuses-2 : Bool
-  refuses-2 = ltb (length script) (position + 1 + body (getD script position 0))
+  refuses-2 = ltb (length script) (position + 1 + body-length (getD script position 0))
 
   -- what the record at a position of a script asks for
   unfoldable pub request-at : Request
@@ -76,7 +76,7 @@ pub data History : Type 0 where
   no-encounter : History
   encounter-at : Encounter → ℕ → History
 
--- 21: add or read with no encounter begun
+-- 21: add or read with no encounter begun; rest E N is the number that the tests after it give
 abbrev pub test-21 : History → (Encounter → ℕ → ℕ) → ℕ
 test-21 no-encounter rest = 21
 test-21 (encounter-at E N) rest = rest E N

@@ -1,5 +1,6 @@
 -- Document 01, 'The exact series': the letters of an encounter, F(k), a(n), c(n), the series and the exponential, and where they are cut. In document 001,
--- section III, F(k) is φ_k R^(2k+2) of equation (24), a(n) the recurrence (25), c(n) the terms of (23) and (27); its factor exp(−zx−zy) is in t.
+-- section III, F(k) is φ_k R^(2k+2) of equation (24), a(n) the recurrence (25), c(n) the terms of (23) and (27). Its factors exp(−zx−zy) and exp(−u) are one
+-- division by the exponential of t = zx + zy + u. docs/READING.md has the letters side by side.
 use mathlib.Core.List.{List, [], _∷_}
 use Prim.Native.Nat.{ℕ, zero, suc, _-_, _*_}
 use lib.IntN.{ℤ, natAbs, negℤ}
@@ -50,7 +51,7 @@ module _ (E : Encounter) where
   unfoldable pub zy : Frac
   zy = square (E .ym) over (2 * (E .sy * E .sy))
 
-  -- g = (sx² − sy²)/sx². A difference of naturals stops at 0; where sy ≤ sx, as for every accepted encounter, it is the integer sx² − sy² (claim `g-sign`).
+  -- g = (sx² − sy²)/sx². A difference of naturals stops at 0; where sy ≤ sx, as for every accepted encounter, it is the integer sx² − sy² (claim `g-sign`, encounter/specs/Claims.antt).
   unfoldable pub g : Frac
   g = (E .sx * E .sx - E .sy * E .sy) over (E .sx * E .sx)
 
@@ -83,7 +84,7 @@ module _ (E : Encounter) where
   unfoldable pub a₀ : Frac
   a₀ = (E .R * E .R) over (2 * (E .sx * E .sy))
 
-  -- the list a(n), .., a(0): "a(n+1) = (F(0)a(n) + .. + F(n)a(0))/(n+1)"; with a(n−k) by its index this is claim `recurrence`
+  -- the list a(n), .., a(0): "a(n+1) = (F(0)a(n) + .. + F(n)a(0))/(n+1)"; with a(n−k) by its index this is claim `recurrence` there
   unfoldable pub upto : ℕ → List Frac
   upto zero = a₀ ∷ []
   upto (suc n) = dot F (upto n) ÷ suc n ∷ upto n

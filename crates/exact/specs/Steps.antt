@@ -1,5 +1,5 @@
 -- Document 01, 'The rounded steps'. They are written once, over numbers S that have a value and a rounding `rnd`, which is the paper's D on the lower side and U
--- on the upper; with the fractions themselves for S and no rounding the steps are the exact series (claim `unrounded`). Then, to 32 significant bits: both sides
+-- on the upper; with the fractions themselves for S and no rounding the steps are the exact series (claim `unrounded`, encounter/specs/Claims.antt). Then, to 32 significant bits: both sides
 -- of an encounter, the tail bound, the two ends at an order N, and the test of the class.
 use mathlib.Core.Bool.{Bool, true, false}
 use Prim.Native.Nat.{ℕ, zero, suc, pred, _*_}
@@ -36,6 +36,7 @@ pub record PowersOf (S : Type 0) : Type 0 where
 abbrev pub same : Frac → Frac
 same q = q
 
+-- Below, val and rnd come first, then the letters l, then what each line names: `terms val rnd l c(0) n`, `tail-term val rnd c(0) M n`, `powers val rnd one t k`.
 module _ {S : Type 0} (val : S → Frac) (rnd : Frac → S) where
   unfoldable pub add : S → S → S
   add x y = rnd (val x ⊕ val y)
@@ -47,7 +48,7 @@ module _ {S : Type 0} (val : S → Frac) (rnd : Frac → S) where
   unfoldable pub div : S → ℕ → S
   div x k = rnd (val x ÷ k)
 
-  -- "h = D(u × g); X = D(zx × b); Y = D(zy × u); t = D(D(zx + zy) + u)."
+  -- Left of each = the rounded letter, right of it the exact ones of Series.antt. "h = D(u × g); X = D(zx × b); Y = D(zy × u); t = D(D(zx + zy) + u)."
   unfoldable pub letters : Encounter → LettersOf S
   letters E = record {
     u = rnd (u E);
@@ -70,15 +71,15 @@ module _ {S : Type 0} (val : S → Frac) (rnd : Frac → S) where
     unfoldable pub next-c : ℕ → TermsOf S → S
     next-c n s = div (add (add (rnd (val (s .p) ⊕ val (mul (l .h) (s .v)) ÷ 2)) (mul (l .X) (s .y))) (mul (l .Y) (s .c))) (suc n * suc (suc n))
 
-    -- "p(n) = D(u × D(c(n) + D(p(n−1)/(n+1))))", at n + 1
+    -- "p(n) = D(u × D(c(n) + D(p(n−1)/(n+1))))", so p(n+1) = D(u × D(c(n+1) + D(p(n)/(n+2)))); c is c(n+1)
     unfoldable pub next-p : ℕ → S → TermsOf S → S
     next-p n c s = mul (l .u) (add c (div (s .p) (suc (suc n))))
 
-    -- "v(n) = D(c(n) + D(D(h × v(n−1))/(n+1)))", at n + 1
+    -- "v(n) = D(c(n) + D(D(h × v(n−1))/(n+1)))", so v(n+1) = D(c(n+1) + D(D(h × v(n))/(n+2))); c is c(n+1)
     unfoldable pub next-v : ℕ → S → TermsOf S → S
     next-v n c s = add c (div (mul (l .h) (s .v)) (suc (suc n)))
 
-    -- "y(n) = D(v(n) + D(D(h × y(n−1))/(n+1)))", at n + 1
+    -- "y(n) = D(v(n) + D(D(h × y(n−1))/(n+1)))", so y(n+1) = D(v(n+1) + D(D(h × y(n))/(n+2))); v is v(n+1)
     unfoldable pub next-y : ℕ → S → TermsOf S → S
     next-y n v s = add v (div (mul (l .h) (s .y)) (suc (suc n)))
 
@@ -97,7 +98,7 @@ module _ {S : Type 0} (val : S → Frac) (rnd : Frac → S) where
     unfoldable pub bound : S
     bound = add (add (rnd (val (l .u) ⊕ val (l .h) ÷ 2)) (l .X)) (l .Y)
 
-  -- d(n), likewise: "d(n) = U(U(d(n−1) × M)/(n+1))", at n + 1
+  -- d(n), likewise: "d(n) = U(U(d(n−1) × M)/(n+1))", so d(n+1) = U(U(d(n) × M)/(n+2))
   unfoldable pub next-d : S → ℕ → S → S
   next-d M n d = div (mul d M) (suc (suc n))
 

@@ -19,7 +19,7 @@ use Rattle.encounter.specs.declared.state.Class.the-variants.{Clear, Alert}
 use Rattle.encounter.specs.declared.state.Answer.{Answer}
 use Rattle.encounter.proofs.state.Answer as A
 use Rattle.encounter.proofs.state.Answer.Laws as A′
-use Rattle.listing.specs.Line.{ascii, decimal, integer, scaled, class-text, ends-and-class, read-text, taken-text, outcome-text, line, room}
+use Rattle.listing.specs.Line.{ascii, decimal, integer, scaled-text, class-text, ends-and-class, read-text, taken-text, outcome-text, line, room}
 use Rattle.listing.proofs.Decimals.{decimal-10, decimal-20}
 
 -- ---- what the types of the numbers say
@@ -63,7 +63,7 @@ module _ (offset kind : ℕ) (a : Answer) (o : offset < 2 ^ 64) (r : AnswerRange
   Short t = length (decimal offset ++ ascii " " ++ t ++ ascii "\n") ≤ room
 
   short-read : Short (read-text a)
-  unfolding read-text ends-and-class scaled
+  unfolding read-text ends-and-class scaled-text
   short-read = simp length-append (omega (
     arith,
     decimal-20 offset o,

@@ -11,7 +11,7 @@ use lib.Seq.{length-take-le}
 use Rattle.encounter.specs.declared.state.Session.{Session}
 use Rattle.encounter.specs.declared.state.Answer.{Answer}
 use Rattle.encounter.specs.declared.state.Taken.{Taken}
-use Rattle.exact.specs.Records.{body, bad, request-of}
+use Rattle.exact.specs.Records.{body-length, bad, request-of}
 use Rattle.exact.specs.Refusals.{refuses-1, refuses-2, request-at, refusal}
 use Rattle.encounter.specs.Calls.{history-of, outcome, next-at, record-call, Reached}
 use Rattle.listing.specs.Line.{line, room}
@@ -36,7 +36,7 @@ pub next-after : (l : List ℕ) (i : ℕ) (s : Session) → is-final (record-cal
 unfolding record-call next-at request-at outcome refusal is-final
 next-after l i s h = go (refuses-1 l i) (refuses-2 l i) h
   where
-    go : (a b : Bool) → is-final (outcome (history-of s) (cond a (bad 1) (cond b (bad 2) (request-of (getD l i 0) l (i + 1)))) s .answer) ≡ false → i < cond (a || b) i (i + 1 + body (getD l i 0))
+    go : (a b : Bool) → is-final (outcome (history-of s) (cond a (bad 1) (cond b (bad 2) (request-of (getD l i 0) l (i + 1)))) s .answer) ≡ false → i < cond (a || b) i (i + 1 + body-length (getD l i 0))
     go true b h = absurd (subst T h tt)
     go false true h = absurd (subst T h tt)
     go false false h = omega arith

@@ -16,8 +16,8 @@ abbrev pub ascii : String → List ℕ
 ascii none = []
 ascii (c then s) = code c ∷ ascii s
 
--- "All numbers are decimal without leading zeros": where n is below 10, its digit; otherwise the digits of n / 10 and then that of n % 10. n has at most
--- k digits
+-- "All numbers are decimal without leading zeros": where n is below 10, its digit; otherwise the digits of n / 10 and then that of n % 10. k is to be
+-- at least the number of digits, which n + 1 is
 unfoldable pub decimal-of : ℕ → ℕ → List ℕ
 decimal-of zero n = []
 decimal-of (suc k) n = cond (ltb n 10) [] (decimal-of k (n / 10)) ++ ((48 + n % 10) ∷ [])
@@ -31,8 +31,8 @@ integer (pos n) = decimal n
 integer (negsuc n) = ascii "-" ++ decimal (suc n)
 
 -- "m and e"
-unfoldable pub scaled : Scaled → List ℕ
-scaled x = decimal (x .m) ++ ascii " " ++ integer (x .e)
+unfoldable pub scaled-text : Scaled → List ℕ
+scaled-text x = decimal (x .m) ++ ascii " " ++ integer (x .e)
 
 -- "`alert` or `clear`"
 unfoldable pub class-text : Class → List ℕ
@@ -41,7 +41,7 @@ class-text Alert = ascii "alert"
 
 -- "`ml el mh eh class` (m and e of both ends, then `alert` or `clear`)"
 unfoldable pub ends-and-class : Answer → List ℕ
-ends-and-class a = scaled (a .lower) ++ ascii " " ++ scaled (a .upper) ++ ascii " " ++ class-text (a .class)
+ends-and-class a = scaled-text (a .lower) ++ ascii " " ++ scaled-text (a .upper) ++ ascii " " ++ class-text (a .class)
 
 -- "`read N ml el mh eh class`"
 unfoldable pub read-text : Answer → List ℕ

@@ -38,7 +38,10 @@ too-long = refused 8
 unfoldable pub printed : List ℕ → List ℕ
 printed l = cond (refuses-8 l) (line 0 0 too-long) (listing l 0 empty)
 
--- text is that of some records from position i on, in order, each of whose lines had room among n bytes; then comes position j, with session t
+-- ---- The listing is written in pieces. A reader of what is printed can stop above.
+
+-- text is that of some records from position i on, in order, each of whose lines had room among n bytes; then comes position j, with session t. (That none follows
+-- refusal 1 or 2 is said by `is` below.)
 pub data Written (l : List ℕ) (n i : ℕ) (s : Session) : List ℕ → ℕ → Session → Type 0 where
   nothing : Written l n i s [] i s
   more :
@@ -50,7 +53,7 @@ pub data Written (l : List ℕ) (n i : ℕ) (s : Session) : List ℕ → ℕ →
 
 -- A piece of the listing from position i on: the first bytes of the buffer are the text of its records, and these bytes with the listing from the next
 -- position on are the listing. Each line had `room` bytes, and the piece ends before the listing does only where fewer are left; then it has used at most
--- `room` bytes for each byte of the script from i to the next position.
+-- `room` bytes for each byte of the script from i to the next position, so that `room` bytes for each byte of a script are enough for its listing.
 pub record PieceOf (l : List ℕ) (i : ℕ) (s : Session) (before after : List ℕ) (p : Piece) : Type 0 where
   pub written : Written l (length before) i s (take (p .used) after) (p .next) (p .session)
   pub is : take (p .used) after ++ cond (p .ended) [] (listing l (p .next) (p .session)) ≡ listing l i s

@@ -2,7 +2,7 @@
 ghost use mathlib.Core.Path.{_≡_};
 ghost use mathlib.Core.List.{_++_};
 ghost use lib.IntN.{natAbs};
-ghost use Rattle.listing.specs.Line.{decimal, integer, scaled, class-text, ends-and-class, read-text, outcome-text, line};
+ghost use Rattle.listing.specs.Line.{decimal, integer, scaled-text, class-text, ends-and-class, read-text, outcome-text, line};
 ghost use Rattle.listing.specs.Put.{RoomFor, Put, PutLine};
 
 pub mod script;
@@ -78,8 +78,8 @@ fn put_integer(out: &mut [u8], at: usize, e: i32) -> usize
 
 // m and e.
 fn put_scaled(out: &mut [u8], at: usize, x: Scaled) -> usize
-    requires { ⌜ RoomFor (now out) at (scaled x) ⌝ }
-    ensures { λ r. ⌜ Put (now (out .entry)) (now (out .exit)) at (scaled x) r ⌝ }
+    requires { ⌜ RoomFor (now out) at (scaled-text x) ⌝ }
+    ensures { λ r. ⌜ Put (now (out .entry)) (now (out .exit)) at (scaled-text x) r ⌝ }
 {
     let m = x.m;
     let e = x.e;

@@ -1,4 +1,4 @@
--- What the program prints, in pieces.
+-- What the program prints, in pieces: `printed` of crate listing, refusal 8 included.
 use mathlib.Core.Path.{_≡_}
 use mathlib.Core.Bool.{false, cond}
 use mathlib.Core.List.{List, [], _++_}
@@ -14,7 +14,7 @@ use Rattle.exact.specs.Refusals.{refuses-8}
 use Rattle.screen.specs.declared.Output.{Output}
 use Rattle.screen.specs.declared.Output.the-variants.{Written, Failed}
 
--- the bytes of the buffer that a piece is put into
+-- the bytes of the buffer that a piece is put into; any number from `room` on would do
 abbrev pub piece-size : ℕ
 piece-size = 65536
 
@@ -33,7 +33,8 @@ pub record NextOf (l : List ℕ) (i : ℕ) (s : Session) (buffer : List ℕ) (p 
   pub left : p .ended ≡ false → p .next < largest-script
   pub reached : Reached (p .session)
 
--- as many bytes were handed over as are printed, unless a write failed
+-- As many bytes were handed over as are printed, unless a write failed. Which bytes, and that they reach standard output, no contract over the system's write can
+-- say: that is tested.
 abbrev pub Handed : List ℕ → Output → Type 0
 Handed text (Written n) = n ≡ length text
 Handed text Failed = Unit {0}

@@ -1,4 +1,5 @@
--- What reading came to.
+-- "It reads the script from standard input": what reading came to. That the bytes are those of standard input, no contract over the system's read can say: that is
+-- tested.
 use mathlib.Core.Path.{_≡_}
 use mathlib.Core.List.{List}
 use Prim.Native.Nat.{ℕ, _≤_, _<_}

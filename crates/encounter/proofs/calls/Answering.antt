@@ -20,7 +20,7 @@ use Rattle.encounter.specs.declared.state.Answer.{Answer}
 use Rattle.encounter.specs.declared.state.Class.{Class}
 use Rattle.encounter.specs.declared.state.Called.{Called}
 use Rattle.encounter.specs.Session.{state, refused, counted, bracket, class-of}
-use Rattle.encounter.specs.Calls.{taken, session-of, history-of, accepted-answer, outcome, Call, begins, adds, reads, call, Reached, after}
+use Rattle.encounter.specs.Calls.{history-after, session-of, history-of, accepted-answer, outcome, Call, begins, adds, reads, call, Reached, after}
 
 -- ---- the tests of a begin
 
@@ -83,7 +83,7 @@ module _ (s : Session) (q : Request) where
   unfolding outcome
   refused-is r e some f = rw (f, e, ne-eqb r 0 some)
 
-  pub taken-is : {a : Answer} {n : Session} → refusal (history-of s) q ≡ 0 → a ≡ accepted-answer q (taken (history-of s) q) → n ≡ session-of (taken (history-of s) q)
+  pub taken-is : {a : Answer} {n : Session} → refusal (history-of s) q ≡ 0 → a ≡ accepted-answer q (history-after (history-of s) q) → n ≡ session-of (history-after (history-of s) q)
       → record { answer = a; session = n } ≡ outcome (history-of s) q s
   unfolding outcome
   taken-is e f g = rw (f, g, e)

@@ -5,9 +5,10 @@ use Rattle.exact.specs.Series.{series, exponential}
 use Rattle.exact.proofs.Rounding.{round-is, is-round}
 use Rattle.exact.proofs.Convolution.{a-suc}
 use Rattle.exact.proofs.Accepted.{g-is}
-use Rattle.exact.proofs.Unrounded.{letters-are, term-is, sum-is, powers-are}
+use Rattle.exact.proofs.Order.{half-exact, double-exact}
+use Rattle.exact.proofs.Unrounded.{letters-are, term-is, sum-is, powers-are, bound-is}
 use Rattle.encounter.specs.Claims.{Claims, Unrounded}
-use Rattle.encounter.proofs.calls.Stars.{stars-hold, mirror-begin, mirror-read}
+use Rattle.encounter.proofs.calls.Stars.{stars-hold, mirror-begin, mirror-add, mirror-read}
 
 unrounded : (E : Encounter) → Unrounded E
 unfolding series exponential
@@ -16,15 +17,19 @@ unrounded E = record {
   terms-are = λ n. rw (letters-are E) (term-is E n);
   sums-are = λ n. rw (letters-are E) (sum-is E n);
   exponentials-are = λ k. powers-are _ k .sum-is;
+  bound-is = rw (letters-are E) (bound-is E);
 }
 
 pub claims : Claims
 claims = record {
   rounding = λ up bits q p. (round-is up bits q p, λ x r. is-round up bits p r);
+  halving = half-exact;
+  doubling = double-exact;
   recurrence = a-suc;
-  g-sign = λ E h. g-is h;
+  g-sign = g-is;
   unrounded = unrounded;
   star-cases = stars-hold;
   mirror-begin = mirror-begin;
+  mirror-add = mirror-add;
   mirror-read = mirror-read;
 }

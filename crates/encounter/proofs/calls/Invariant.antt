@@ -19,7 +19,7 @@ use Rattle.encounter.specs.declared.state.Session.{Session}
 use Rattle.encounter.specs.declared.state.Called.{Called}
 use Rattle.encounter.specs.Session.{empty, state, counted, bracket}
 use Rattle.encounter.specs.Private.Held.{Begun}
-use Rattle.encounter.specs.Calls.{taken, follow, session-of, history-of, accepted-answer, refusing, outcome, Call, adds, asked, call, Reached, from-empty, after}
+use Rattle.encounter.specs.Calls.{history-after, follow, session-of, history-of, accepted-answer, refusing, outcome, Call, adds, asked, call, Reached, from-empty, after}
 use Rattle.encounter.specs.Enclosure.{Claim, Every, places, Encloses, Demands}
 
 -- the session s, where the requests so far tell w
@@ -37,7 +37,7 @@ history-is nothing = refl
 history-is (at {E} {N} h l u) = rw (ne-eqb N 0 (λ z. omega arith))
 
 -- the session after an accepted request
-taken-whole : {s : Session} {w : History} → Whole s w → (q : Request) → refusal w q ≡ 0 → Whole (session-of (taken w q)) (taken w q)
+taken-whole : {s : Session} {w : History} → Whole s w → (q : Request) → refusal w q ≡ 0 → Whole (session-of (history-after w q)) (history-after w q)
 unfolding refusal refuses-22
 taken-whole h (begin E) z = at {N = 1} (record { passes = z }) (omega arith) (omega arith)
 taken-whole nothing (add count) z = nothing
@@ -50,19 +50,19 @@ taken-whole (at h l u) (bad r) z = at h l u
 module _ {s : Session} {w : History} (h : Whole s w) (q : Request) where
   -- what an accepted request is answered
   done : Called
-  done = record { answer = accepted-answer q (taken w q); session = session-of (taken w q) }
+  done = record { answer = accepted-answer q (history-after w q); session = session-of (history-after w q) }
 
   -- the session after any request
   kept : Whole (outcome w q s .session) (follow w q)
   unfolding outcome done
   kept = go (eqb (refusal w q) 0) refl
     where
-      go : (b : Bool) → eqb (refusal w q) 0 ≡ b → Whole (cond b done (refusing (refusal w q) s) .session) (cond b (taken w q) w)
+      go : (b : Bool) → eqb (refusal w q) 0 ≡ b → Whole (cond b done (refusing (refusal w q) s) .session) (cond b (history-after w q) w)
       go true e = taken-whole h q (eqb-true (refusal w q) 0 e)
       go false e = h
 
   -- the number that is answered
-  accepted-number : (q : Request) (w : History) → refusal w q ≡ 0 → accepted-answer q (taken w q) .refusal ≡ refusal w q
+  accepted-number : (q : Request) (w : History) → refusal w q ≡ 0 → accepted-answer q (history-after w q) .refusal ≡ refusal w q
   unfolding refusal bracket
   accepted-number (begin E) w z = sym z
   accepted-number (add count) no-encounter z = sym z

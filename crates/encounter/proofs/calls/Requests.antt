@@ -14,14 +14,14 @@ use mir.Syntax.{w32}
 use mir.Val.{SFits, toZ}
 use mir.ValLaws.{toZ-pos}
 use Rattle.exact.specs.declared.Encounter.{Encounter}
-use Rattle.exact.specs.Records.{is-kind, body, u16-at, signed, begin-at, Request, begin, add, read, bad, request-of}
+use Rattle.exact.specs.Records.{is-kind, body-length, u16-at, signed, begin-at, Request, begin, add, read, bad, request-of}
 use Rattle.exact.specs.Refusals.{refuses-1, refuses-2, request-at, History, refusal}
 use Rattle.encounter.specs.declared.state.Session.{Session}
 use Rattle.encounter.specs.declared.state.Answer.{Answer}
 use Rattle.encounter.specs.declared.state.Called.{Called}
 use Rattle.encounter.specs.declared.state.Taken.{Taken}
 use Rattle.encounter.specs.Session.{refused}
-use Rattle.encounter.specs.Calls.{taken, session-of, history-of, accepted-answer, refusing, outcome, begins, adds, reads, takes, call, next-at, record-call, Reached, after}
+use Rattle.encounter.specs.Calls.{history-after, session-of, history-of, accepted-answer, refusing, outcome, begins, adds, reads, takes, call, next-at, record-call, Reached, after}
 use Rattle.encounter.proofs.calls.Answering.{refused-is}
 use Rattle.encounter.proofs.calls.Invariant.{told}
 
@@ -57,23 +57,23 @@ module _ (l : List ℕ) (i : ℕ) where
 
   module _ (h : i < length l) where
     pub begin-short : getD l i 0 ≡ 1 → length l - i < 21 → At l i (bad 2) i
-    unfolding request-at next-at refuses-1 refuses-2 is-kind body
+    unfolding request-at next-at refuses-1 refuses-2 is-kind body-length
     begin-short k m = let e = lt-ltb (length l) (i + 1 + 20) (omega arith) in (rw (lt-leb (length l) i h, k, e), rw (lt-leb (length l) i h, k, e))
 
     pub begin-whole : getD l i 0 ≡ 1 → 21 ≤ length l - i → At l i (begin (begin-at l (i + 1))) (i + 21)
-    unfolding request-at next-at request-of refuses-1 refuses-2 is-kind body
+    unfolding request-at next-at request-of refuses-1 refuses-2 is-kind body-length
     begin-whole k m = let e = le-ltb (length l) (i + 1 + 20) (omega arith) in (rw (lt-leb (length l) i h, k, e), let n : next-at l i ≡ i + 1 + 20 = rw (lt-leb (length l) i h, k, e) in n ∙ omega arith)
 
     pub add-short : getD l i 0 ≡ 2 → length l - i < 3 → At l i (bad 2) i
-    unfolding request-at next-at refuses-1 refuses-2 is-kind body
+    unfolding request-at next-at refuses-1 refuses-2 is-kind body-length
     add-short k m = let e = lt-ltb (length l) (i + 1 + 2) (omega arith) in (rw (lt-leb (length l) i h, k, e), rw (lt-leb (length l) i h, k, e))
 
     pub add-whole : getD l i 0 ≡ 2 → 3 ≤ length l - i → At l i (add (u16-at l (i + 1))) (i + 3)
-    unfolding request-at next-at request-of refuses-1 refuses-2 is-kind body
+    unfolding request-at next-at request-of refuses-1 refuses-2 is-kind body-length
     add-whole k m = let e = le-ltb (length l) (i + 1 + 2) (omega arith) in (rw (lt-leb (length l) i h, k, e), let n : next-at l i ≡ i + 1 + 2 = rw (lt-leb (length l) i h, k, e) in n ∙ omega arith)
 
     pub a-read : getD l i 0 ≡ 3 → At l i read (i + 1)
-    unfolding request-at next-at request-of refuses-1 refuses-2 is-kind body
+    unfolding request-at next-at request-of refuses-1 refuses-2 is-kind body-length
     a-read k = let e = le-ltb (length l) (i + 1 + 0) (omega arith) in (rw (lt-leb (length l) i h, k, e), let n : next-at l i ≡ i + 1 + 0 = rw (lt-leb (length l) i h, k, e) in n ∙ omega arith)
 
     pub no-kind : (getD l i 0 ≡ 1 → ⊥) → (getD l i 0 ≡ 2 → ⊥) → (getD l i 0 ≡ 3 → ⊥) → At l i (bad 1) i

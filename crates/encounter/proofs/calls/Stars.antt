@@ -5,32 +5,32 @@ use lib.Dec.{eqb}
 use Prim.Native.Nat.{ℕ}
 use lib.Ieee.{size, span, climb}
 use Rattle.exact.specs.declared.Encounter.{Encounter}
-use Rattle.exact.specs.Fraction.{_over_, whole, _⊕_, _⊗_, _÷_, _↑_, at-most, above, sum}
+use Rattle.exact.specs.Fraction.{_over_, whole, _⊕_, _⊗_, _÷_, _⊘_, _↑_, at-most, above, sum}
 use Rattle.exact.specs.Scaled.{value}
 use Rattle.exact.specs.Private.Round.{round, pack, finish, spare, inexact}
 use Rattle.exact.specs.Series.{mirrored, square, u, b, zx, zy, g, h, X, Y, t, a₀, factorial, dot, F-without-Y, F, upto, a, c, series, exponential-term, exponential}
-use Rattle.exact.specs.Steps.{add, mul, div, letters, start, first, next-c, next-p, next-v, next-y, next, terms, bound, next-d, tail-term, side-letters, side-start, side-terms, M, d, tail-bound}
+use Rattle.exact.specs.Steps.{add as plus, mul, div, letters, start, first, next-c, next-p, next-v, next-y, next, terms, bound, next-d, tail-term, side-letters, side-start, side-terms, next-power, powers, side-powers, sum-to, exponential-sum, r256, exponential-with-tail, M, d, tail-bound, lower-end, upper-end}
 use Rattle.exact.specs.Refusals.{outside, miss-outside, refuses-3, refuses-4, refuses-5, refuses-6, refuses-7, begin-refusal, refuses-23, refusal, History, no-encounter, encounter-at}
-use Rattle.exact.specs.Records.{Request, begin, read}
+use Rattle.exact.specs.Records.{Request, begin, add, read}
 use Rattle.exact.proofs.Mirror.{lower-mirror, upper-mirror, read-mirror, refusal-mirror}
 use Rattle.encounter.specs.declared.state.Session.{Session}
 use Rattle.encounter.specs.declared.state.Answer.{Answer}
 use Rattle.encounter.specs.Session.{empty, state, refused, bracket}
-use Rattle.encounter.specs.Calls.{taken, session-of, history-of, accepted-answer, refusing, outcome, begins, reads, call}
+use Rattle.encounter.specs.Calls.{history-after, session-of, history-of, accepted-answer, refusing, outcome, begins, adds, reads, call}
 use Rattle.encounter.specs.Stars.{E₂, All, stars}
 
 -- the answer of a request depends on its refusal's number and on what it is answered where that is 0
-answer-of : (w : History) (q : Request) (s : Session) → outcome w q s .answer ≡ cond (eqb (refusal w q) 0) (accepted-answer q (taken w q)) (refused (refusal w q))
+answer-of : (w : History) (q : Request) (s : Session) → outcome w q s .answer ≡ cond (eqb (refusal w q) 0) (accepted-answer q (history-after w q)) (refused (refusal w q))
 unfolding outcome
 answer-of w q s = go (eqb (refusal w q) 0)
   where
-    go : (b : Bool) → cond b (record { answer = accepted-answer q (taken w q); session = session-of (taken w q) }) (refusing (refusal w q) s) .answer ≡ cond b (accepted-answer q (taken w q)) (refused (refusal w q))
+    go : (b : Bool) → cond b (record { answer = accepted-answer q (history-after w q); session = session-of (history-after w q) }) (refusing (refusal w q) s) .answer ≡ cond b (accepted-answer q (history-after w q)) (refused (refusal w q))
     go true = refl
     go false = refl
 
-pub mirror-begin : (E : Encounter) → call (begins (mirrored E)) empty .answer ≡ call (begins E) empty .answer
+pub mirror-begin : (E : Encounter) (s : Session) → call (begins (mirrored E)) s .answer ≡ call (begins E) s .answer
 unfolding refusal
-mirror-begin E = answer-of (history-of empty) (begin (mirrored E)) empty ∙ rw (refusal-mirror E) (sym (answer-of (history-of empty) (begin E) empty))
+mirror-begin E s = answer-of (history-of s) (begin (mirrored E)) s ∙ rw (refusal-mirror E) (sym (answer-of (history-of s) (begin E) s))
 
 bracket-mirror : (E : Encounter) (N : ℕ) → bracket (mirrored E) N ≡ bracket E N
 unfolding bracket
@@ -45,11 +45,24 @@ unfolding read-of refusal
 same-history E N true = refl
 same-history E N false = rw (read-mirror E N, bracket-mirror E N)
 
+add-of : (count : ℕ) (w : History) → Answer
+add-of count w = cond (eqb (refusal w (add count)) 0) (accepted-answer (add count) (history-after w (add count))) (refused (refusal w (add count)))
+
+same-add : (E : Encounter) (N count : ℕ) (b : Bool) → add-of count (cond b no-encounter (encounter-at (mirrored E) N)) ≡ add-of count (cond b no-encounter (encounter-at E N))
+unfolding add-of refusal
+same-add E N count true = refl
+same-add E N count false = refl
+
+pub mirror-add : (E : Encounter) (N count : ℕ) → call (adds count) (state (mirrored E) N) .answer ≡ call (adds count) (state E N) .answer
+unfolding history-of state add-of
+mirror-add E N count =
+    answer-of (history-of (state (mirrored E) N)) (add count) (state (mirrored E) N) ∙ same-add E N count (eqb N 0) ∙ sym (answer-of (history-of (state E N)) (add count) (state E N))
+
 pub mirror-read : (E : Encounter) (N : ℕ) → call reads (state (mirrored E) N) .answer ≡ call reads (state E N) .answer
 unfolding history-of state read-of
 mirror-read E N =
     answer-of (history-of (state (mirrored E) N)) read (state (mirrored E) N) ∙ same-history E N (eqb N 0) ∙ sym (answer-of (history-of (state E N)) read (state E N))
 
 pub stars-hold : All stars
-unfolding stars round pack finish spare inexact _over_ whole _⊕_ _⊗_ _÷_ _↑_ at-most value size span climb square u b zx zy g h X Y t a₀ factorial dot F-without-Y F upto a c add mul div letters start first next-c next-p next-v next-y next terms bound next-d tail-term side-letters side-start side-terms M d tail-bound above outside miss-outside refuses-3 refuses-4 refuses-5 refuses-6 refuses-7 begin-refusal refuses-23 refusal history-of outcome state bracket series exponential-term exponential sum
-stars-hold = (refl, (refl, (refl, (refl, (refl, (refl, (refl, (refl, (record { eq = refl }, (record { eq = refl }, (record { eq = refl }, (record { eq = refl }, (record { eq = refl }, (refl, (refl, (refl, (refl, (refl, (refl, (refl, (refl, (refl, (refl, (record { eq = refl }, (record { eq = refl }, (refl, (record { eq = refl }, (record { eq = refl }, (record { eq = refl }, (refl, (record { eq = refl }, (refl, (refl, (refl, (mirror-begin E₂, (mirror-read E₂ 2109, (mirror-read E₂ 2110, (record { eq = refl }, (record { eq = refl }, (record { eq = refl }, (record { eq = refl }, (record { eq = refl }, (record { eq = refl }, (record { eq = refl }, (record { eq = refl }, (record { eq = refl }, (record { eq = refl }, (record { eq = refl }, (record { eq = refl }, (record { eq = refl }, (record { eq = refl }, (record { eq = refl }, (record { eq = refl }, tt)))))))))))))))))))))))))))))))))))))))))))))))))))))
+unfolding stars round pack finish spare inexact _over_ whole _⊕_ _⊗_ _÷_ _↑_ at-most value size span climb square u b zx zy g h X Y t a₀ factorial dot F-without-Y F upto a c plus mul div letters start first next-c next-p next-v next-y next terms bound next-d tail-term side-letters side-start side-terms M d tail-bound above outside miss-outside refuses-3 refuses-4 refuses-5 refuses-6 refuses-7 begin-refusal refuses-23 refusal history-of outcome state bracket series exponential-term exponential sum _⊘_ next-power powers side-powers exponential-sum r256 exponential-with-tail sum-to lower-end upper-end
+stars-hold = (refl, (refl, (refl, (refl, (refl, (refl, (refl, (refl, (record { eq = refl }, (record { eq = refl }, (record { eq = refl }, (record { eq = refl }, (record { eq = refl }, (refl, (refl, (refl, (refl, (refl, (refl, (refl, (refl, (refl, (refl, (record { eq = refl }, (record { eq = refl }, (refl, (record { eq = refl }, (record { eq = refl }, (record { eq = refl }, (refl, (record { eq = refl }, (refl, (refl, (refl, (mirror-begin E₂ empty, (mirror-read E₂ 2109, (mirror-read E₂ 2110, (record { eq = refl }, (record { eq = refl }, (record { eq = refl }, (record { eq = refl }, (record { eq = refl }, (record { eq = refl }, (record { eq = refl }, (record { eq = refl }, (record { eq = refl }, (record { eq = refl }, (record { eq = refl }, (record { eq = refl }, (record { eq = refl }, (record { eq = refl }, (record { eq = refl }, (record { eq = refl }, (refl, (refl, (refl, (refl, (refl, (refl, tt)))))))))))))))))))))))))))))))))))))))))))))))))))))))))))

@@ -52,6 +52,7 @@ fn made(c: Called, next: usize) -> Taken
     }
 }
 
+// The call that the record at a position asks for. After refusal 1 or 2 `next` is that position itself: the script ends there. The script is lent for reading only.
 pub fn take_record(s: Session, script: &[u8], at: usize) -> Taken
     requires { ⌜ Reached s ⌝ }
     ensures { λ t. ⌜ (t ≡ record-call (now (script .entry)) at s) × Reached (t .session) ⌝ }

@@ -1,4 +1,4 @@
-use Rattle.listing.specs.Line.{scaled}
+use Rattle.listing.specs.Line.{scaled-text}
 use Rattle.listing.proofs.Putting.{joined, parts}
 use Rattle.exact.proofs.Signed.{back}
 use native.Mathlib.Omega.{arith}
@@ -7,18 +7,18 @@ use Rattle.listing.proofs.put_scaled.Statement.{statement}
 use Rattle.listing.proofs.put_scaled.Tie as tie
 
 put-word-requires : tie.Need-put-word-requires
-unfolding scaled
+unfolding scaled-text
 put-word-requires c κs = omega (arith, parts)
 
 slice-aggregate-put : tie.Need-slice-aggregate-put
 slice-aggregate-put c = search needs
 
 put-requires : tie.Need-put-requires
-unfolding scaled
+unfolding scaled-text
 put-requires c κs = omega (arith, parts)
 
 put-integer-requires : tie.Need-put-integer-requires
-unfolding scaled
+unfolding scaled-text
 put-integer-requires c κs =
     let z = c .before .before .before .before .before .before .before .before .before .before in
     rw (back (z .before .before .args .x .e) (z .struct-told .given .1 .0 .1)) (omega (arith, parts))
@@ -27,7 +27,7 @@ same-length : tie.Need-same-length
 same-length c = search needs
 
 returns : tie.Need-returns
-unfolding scaled
+unfolding scaled-text
 returns c =
     let i = c .before .before in
     let s = i .before .before .before .before in
