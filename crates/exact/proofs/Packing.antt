@@ -166,6 +166,3 @@ module _ (up : Bool) (b h t : ℕ) (e : ℤ) (s : Bool) (hp : 0 < h) (bits-are :
       some : (h : ℕ) → 0 < h → pack up b h e s ≡ finish b (h / 2 ^ spare b h) (e +ℤ pos (spare b h)) (up && inexact b h s)
       some zero p = let f : ⊥ = omega arith in absurd f
       some (suc h) p = unfold pack in refl
-
-  pub top-lt : h / 2 ^ t < 2 ^ b
-  top-lt = shr-lt b t (rw bits-are at (size-lt h))

@@ -6,13 +6,13 @@ use Prim.Native.Nat.{ℕ, zero, suc, _+_, _-_, _*_, _/_, _%_, _^_, _≤_, _<_, z
 use native.Mathlib.Nat.{le-trans, lt-of-le-of-lt, lt-of-lt-of-le, mul-le-mul-left, div-le-self, eq-zero-or-pos, le-of-lt, zero-mul, mul-zero, suc-pred-eq-of-pos}
 use native.Mathlib.Numerals.{add-one}
 use native.Mathlib.Omega.{arith}
-use lib.Dec.{ltb, eqb}
+use lib.Dec.{ltb, eqb, lit≤}
 use borrow.Author.Tests.{eq-eqb, ne-eqb}
-use lib.IntN.{ℤ, pos, subℕ, _+ℤ_, _-ℤ_}
+use lib.IntN.{ℤ, pos, negsuc, subℕ, _+ℤ_, _-ℤ_}
 use lib.Pow.{pow-pos, pow-mono, shl-lt, add-lt-pow}
 use lib.Ieee.{size}
 use lib.Ieee.Digits.{size-le}
-use mir.Syntax.{w32, w64}
+use mir.Syntax.{w64}
 use mir.Val.{SFits}
 use Rattle.exact.specs.declared.Scaled.{Scaled}
 use Rattle.exact.specs.Integer.{posPart, negPart}
@@ -23,7 +23,8 @@ use Rattle.exact.specs.Private.Round.{finish, spare, inexact, pack, roun
 use Rattle.exact.proofs.Integers.{pos-add, neg-add, pos-diff, neg-diff, pos-sub, neg-sub, gap, gap-above}
 use Rattle.exact.proofs.Signed.{fits}
 use Rattle.exact.proofs.Rounding.{Packed, round-is}
-use Rattle.exact.proofs.Operations.{product-packs, product-none, sum-packs, sum-none, sum-comm, over-packs, over-none, per-packs, per-none}
+use Rattle.exact.proofs.Order.{quotient-over}
+use Rattle.exact.proofs.Operations.{product-packs, product-none, sum-packs, sum-none, sum-comm, over-packs, over-none}
 
 -- ---- `pack` raises e by the spare bits, and by one more where it carries
 
@@ -66,12 +67,9 @@ nought-range b B = record { is-scaled = inl refl; above = zero-le; below = zero-
 pub widen : {b A B : ℕ} {x : Scaled} → A ≤ B → InRange b A x → InRange b B x
 widen l h = record { is-scaled = h .is-scaled; above = le-trans (h .above) l; below = le-trans (h .below) l }
 
--- an exponent in range fits an i32, and an i64
-pub in-fits : {b : ℕ} {x : Scaled} → InRange b (2 ^ 28) x → SFits w32 (x .e)
+-- an exponent in range fits an i64
+pub in-fits : {b : ℕ} {x : Scaled} → InRange b (2 ^ 28) x → SFits w64 (x .e)
 in-fits {x = x} h = fits (x .e) (omega (arith, h .above)) (omega (arith, h .below))
-
-pub in-fits-64 : {b : ℕ} {x : Scaled} → InRange b (2 ^ 28) x → SFits w64 (x .e)
-in-fits-64 {x = x} h = fits (x .e) (omega (arith, h .above)) (omega (arith, h .below))
 
 mantissa : {x : Scaled} → x ≡ nought → x .m ≡ 0
 mantissa e = ap (λ (y : Scaled). y .m) e
@@ -125,16 +123,6 @@ module _ (up : Bool) (b : ℕ) (bp : 0 < b) where
           (omega (arith, h .above, pos-add (x .e -ℤ pos b) (pos b), pos-diff (x .e) (pos b), neg-diff (x .e) (pos b)))
           (omega (arith, h .below, neg-diff (x .e) (pos b)))
 
-  pub per-range : {A B : ℕ} {x y : Scaled} → InRange b A x → InRange b B y → Normal b y → InRange b (A + B + b + 1) (round up b (value x ⊘ value y))
-  per-range {A} {B} {x} {y} h k n' = go (h .is-scaled)
-    where
-      go : IsScaled b x → InRange b (A + B + b + 1) (round up b (value x ⊘ value y))
-      go (inl z) = rw (per-none up b x y (mantissa z)) (nought-range b (A + B + b + 1))
-      go (inr n) =
-          packed-range b (A + B + b) bp (per-packs up b x y bp n n') (lt-of-le-of-lt (div-le-self (x .m * 2 ^ b) (y .m)) (shl-lt b b (n .high)))
-          (let d = x .e -ℤ y .e in omega (arith, h .above, k .below, pos-add (d -ℤ pos b) (pos b), pos-diff d (pos b), neg-diff d (pos b), pos-diff (x .e) (y .e), neg-diff (x .e) (y .e)))
-          (let d = x .e -ℤ y .e in omega (arith, h .below, k .above, neg-diff d (pos b), neg-diff (x .e) (y .e)))
-
   pub fraction-range : (l : ℕ) (q : Frac) → q .num < 2 ^ l → q .den < 2 ^ l → InRange b (l + l + l + b + 1) (round up b q)
   unfolding round
   fraction-range l q nl dl =
@@ -152,7 +140,7 @@ module _ (up : Bool) (b : ℕ) (bp : 0 < b) where
   unfolding _over_
   ratio-range l n d nl dl dp = fraction-range l (n over d) nl (rw (suc-pred-eq-of-pos dp) dl)
 
--- ---- halves and doubles
+-- ---- other exponents
 
 exponent-range : {b A : ℕ} {x : Scaled} (e : ℤ) → IsScaled b x → posPart e ≤ A → negPart e ≤ A → InRange b A (with-exponent x e)
 unfolding with-exponent
@@ -160,8 +148,18 @@ exponent-range {b} {A} {x} e (inl z) p n = rw (eq-eqb (x .m) 0 (mantissa z)) (no
 exponent-range {b} {A} {x} e (inr s) p n =
     rw (ne-eqb (x .m) 0 (λ z. omega (arith, s .low, pow-pos b))) (record { is-scaled = inr (record { low = s .low; high = s .high }); above = p; below = n })
 
+-- x over a power of two
+pub moved-range : {b A B : ℕ} {x : Scaled} (k : ℤ) → InRange b A x → posPart k ≤ B → negPart k ≤ B → InRange b (A + B) (with-exponent x (x .e -ℤ k))
+moved-range {x = x} k h p n = exponent-range (x .e -ℤ k) (h .is-scaled) (omega (arith, h .above, pos-diff (x .e) k)) (omega (arith, h .below, neg-diff (x .e) k))
+
 pub half-range : {b A : ℕ} {x : Scaled} → InRange b A x → InRange b (A + 1) (half x)
-half-range {x = x} h = exponent-range (x .e -ℤ pos 1) (h .is-scaled) (omega (arith, h .above, pos-diff (x .e) (pos 1))) (omega (arith, h .below, neg-diff (x .e) (pos 1)))
+half-range h = moved-range (pos 1) h (lit≤ tt) (lit≤ tt)
 
 pub double-range : {b A : ℕ} {x : Scaled} → InRange b A x → InRange b (A + 1) (double x)
-double-range {x = x} h = exponent-range (x .e +ℤ pos 1) (h .is-scaled) (omega (arith, h .above, pos-add (x .e) (pos 1))) (omega (arith, h .below, neg-add (x .e) (pos 1)))
+double-range h = moved-range (negsuc 0) h (lit≤ tt) (lit≤ tt)
+
+-- the quotient of two
+pub quotient-range : (up : Bool) (b : ℕ) {A B : ℕ} {x y : Scaled} → 0 < b → InRange b A x → InRange b B y → Normal b y → InRange b (A + B + b + 1) (round up b (value x ⊘ value y))
+quotient-range up b {x = x} {y} bp h k n =
+    let yp : 0 < y .m = omega (arith, n .low, pow-pos b) in
+    rw (quotient-over up b x y bp yp) (over-range up b bp (y .m) yp (omega (arith, n .high)) (moved-range (y .e) h (k .above) (k .below)))

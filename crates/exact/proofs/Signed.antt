@@ -45,9 +45,6 @@ module _ (w : Width) where
   pub small-in : (t : ℕ) → t < 2 ^ hbits w → toZ w t ≡ pos t
   small-in t h = rw (lt-ltb t (2 ^ hbits w) h)
 
-pub sum-fits : (a b : ℤ) → posPart a + posPart b < 2 ^ 31 → negPart a + negPart b ≤ 2 ^ 31 → SFits w32 (a +ℤ b)
-sum-fits = sum-fits-in w32
-
 pub diff-fits : (a b : ℤ) → posPart a + negPart b < 2 ^ 31 → negPart a + posPart b ≤ 2 ^ 31 → SFits w32 (a -ℤ b)
 diff-fits = diff-fits-in w32
 

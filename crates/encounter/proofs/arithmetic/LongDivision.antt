@@ -1,33 +1,48 @@
--- Long division of n by d, t bits of the quotient a turn.
-use mathlib.Core.Path.{_≡_, sym, ap}
-use mathlib.Core.Logic.{⊎-elim}
-use Prim.Native.Nat.{ℕ, _+_, _*_, _/_, _%_, _^_, _<_}
-use native.Mathlib.Nat.{mul-add-div-right, mul-add-mod-self-right, div-lt-iff-lt-mul, div-add-mod', mul-lt-mul-of-pos-right, mul-le-mul-left, mul-le-mul-right, le-of-lt}
+-- A fraction of whole numbers n / d from a quotient of 32 bits: n followed by t zeros and 16 more, and d by zeros to 48 bits.
+use mathlib.Core.Path.{_≡_, ap}
+use mathlib.Core.Bool.{Bool}
+use Prim.Native.Nat.{ℕ, _+_, _-_, _*_, _/_, _%_, _^_, _≤_, _<_}
+use native.Mathlib.Nat.{le-div-iff-mul-le}
 use native.Mathlib.Omega.{arith}
-use lib.Pow.{pow-pos, pow-add, pow-mono}
-use Rattle.exact.proofs.Fractions.{lt-or-le}
+use lib.Dec.{ltb, lit<}
+use lib.IntN.{ℤ, pos, _-ℤ_}
+use lib.Ieee.{size}
+use lib.Ieee.Digits.{size-le}
+use lib.Pow.{pow-add}
+use Rattle.exact.specs.Fraction.{_over_}
+use Rattle.exact.specs.Integer.{posPart, negPart}
+use Rattle.exact.specs.Scaled.{scaled, Normal}
+use Rattle.exact.proofs.Integers.{bal-diff}
+use Rattle.exact.proofs.Rounding.{Packed}
+use Rattle.exact.proofs.Operations.{ratio-packs, whole-normal}
 
--- q and r, quotient and remainder of n × 2^i, give those of n × 2^(i + t)
-module _ (n d i t q r : ℕ) (dp : 0 < d) (eq : q ≡ n * 2 ^ i / d) (er : r ≡ n * 2 ^ i % d) where
-  split : n * 2 ^ (i + t) ≡ q * 2 ^ t * d + r * 2 ^ t
-  split = rw (pow-add 2 i t, eq, er) (omega (arith, ap (λ (x : ℕ). x * 2 ^ t) (div-add-mod' (n * 2 ^ i) d)))
+-- n followed by zeros, to w bits
+pub filled : (n w : ℕ) → 0 < n → n < 2 ^ w → Normal w (scaled (n * 2 ^ (w - size n)) (pos 0 -ℤ pos (w - size n)))
+filled n w np nl = whole-normal w n np nl (w - size n) (omega (arith, size-le n w nl))
 
-  pub next-quotient : q * 2 ^ t + r * 2 ^ t / d ≡ n * 2 ^ (i + t) / d
-  next-quotient = sym (rw split (mul-add-div-right dp (q * 2 ^ t) (r * 2 ^ t)))
+module _ (n d s t k : ℕ) (dp : 0 < d) (dl : d < 2 ^ 48) (s-is : s ≡ size d) (k-is : k ≡ d * 2 ^ (48 - s)) where
+  pub few : s ≤ 48
+  few = omega (arith, size-le d 48 dl)
 
-  pub next-rest : r * 2 ^ t % d ≡ n * 2 ^ (i + t) % d
-  next-rest = sym (rw split (mul-add-mod-self-right (q * 2 ^ t) d (r * 2 ^ t)))
+  pub full : (2 ^ 47 ≤ k) × (k < 2 ^ 48)
+  full = let f = filled d 48 dp dl in rw (k-is, s-is) (omega (arith, f .low), f .high)
 
--- a turn's part of the quotient is below 2^t
-pub turn-lt : (d t r : ℕ) → 0 < d → r < d → r * 2 ^ t / d < 2 ^ t
-turn-lt d t r dp l = div-lt-iff-lt-mul dp .1 (omega (arith, mul-lt-mul-of-pos-right l (pow-pos t)))
+  some : 0 < k
+  some = omega (arith, full)
 
--- while the quotient is below 2^a, for a divisor of c bits, i is below a + c
-pub few-turns : (n d i a c : ℕ) → 0 < n → 0 < d → d < 2 ^ c → n * 2 ^ i / d < 2 ^ a → i < a + c
-few-turns n d i a c np dp dl h =
-    ⊎-elim (λ l. l)
-    (λ l.
-    let x : n * 2 ^ i < 2 ^ a * d = div-lt-iff-lt-mul dp .0 h in
-    let f : ⊥ = omega (arith, mul-le-mul-left (2 ^ a) (le-of-lt dl), pow-mono l, pow-add 2 a c, mul-le-mul-right (2 ^ i) np) in
-    absurd f)
-    (lt-or-le i (a + c))
+  abbrev e : ℤ
+  e = pos 32 -ℤ pos (s + t)
+
+  powers : 2 ^ negPart e * 2 ^ (48 - s) ≡ 2 ^ posPart e * 2 ^ t * 2 ^ 16
+  powers =
+      let b : negPart e + (48 - s) ≡ posPart e + t + 16 = omega (arith, bal-diff (pos 32) (pos (s + t)), few) in
+      simp (pow-add 2) at (ap (λ (x : ℕ). 2 ^ x) b)
+
+  is : n * (k * 2 ^ negPart e) ≡ n * 2 ^ t * 65536 * 2 ^ posPart e * d
+  is = rw k-is (omega (arith, ap (λ (x : ℕ). n * d * x) powers))
+
+  pub divides : (up : Bool) → 2 ^ 15 * k ≤ n * 2 ^ t
+      → (2 ^ 31 ≤ n * 2 ^ t * 65536 / k) × Packed up 32 (n over d) (n * 2 ^ t * 65536 / k) e (ltb 0 (n * 2 ^ t * 65536 % k))
+  divides up l =
+      let low : 2 ^ 31 ≤ n * 2 ^ t * 65536 / k = le-div-iff-mul-le some .1 (omega arith) in
+      (low, ratio-packs up 32 n d (n * 2 ^ t * 65536) k e (lit< tt) dp some (omega arith) is)

@@ -1,10 +1,10 @@
 -- A quotient by way of a reciprocal: the product without its last 32 bits has the quotient's whole part 31 bits up, and a rest below it just where the
 -- division leaves one.
-use mathlib.Core.Path.{_≡_, refl, sym, _∙_, ap}
-use mathlib.Core.Bool.{Bool, cond}
+use mathlib.Core.Path.{_≡_, refl, sym, ap}
+use mathlib.Core.Bool.{Bool}
 use mathlib.Core.Logic.{⊎-elim}
 use Prim.Native.Nat.{ℕ, _+_, _-_, _*_, _/_, _%_, _^_, _≤_, _<_}
-use native.Mathlib.Nat.{div-mul-le-self, lt-div-mul-add, div-add-mod', mod-lt, mod-eq-of-lt, mul-add-div-right, mul-le-mul-left, lt-of-mul-lt-mul-right, le-of-mul-le-mul-right, mul-lt-mul-of-pos-right, eq-zero-or-pos}
+use native.Mathlib.Nat.{div-mul-le-self, lt-div-mul-add, div-add-mod', mod-lt, mul-add-div-right, mul-le-mul-left, lt-of-mul-lt-mul-right, le-of-mul-le-mul-right, mul-lt-mul-of-pos-right, eq-zero-or-pos}
 use native.Mathlib.Omega.{arith}
 use borrow.Author.Tests.{lt-ltb}
 use lib.Dec.{ltb, lit<}
@@ -14,7 +14,6 @@ use lib.Pow.{pow-mono}
 use Rattle.exact.proofs.Bits.{size-low}
 use Rattle.encounter.specs.declared.arithmetic.wide.Reciprocal.{Reciprocal}
 use Rattle.encounter.specs.Private.Loops.{whole-part, IsReciprocal}
-use Rattle.encounter.proofs.arithmetic.WholeParts.{raised-quotient}
 
 -- R is 2^63 × p / k, rounded up
 module _ (m k p R : ℕ) (ml : m < 2 ^ 32) (kp : 0 < k) (kl : k ≤ 2 ^ 25) (above : 2 ^ 63 * p ≤ R * k) (near : R * k < 2 ^ 63 * p + k) where
@@ -58,9 +57,8 @@ module _ (m k p R : ℕ) (ml : m < 2 ^ 32) (kp : 0 < k) (kl : k ≤ 2 ^ 25) (abo
       let b : m * R < 2 ^ 63 * Q + 2 ^ 63 = lt-of-mul-lt-mul-right k (omega (arith, under, ap (λ (x : ℕ). 2 ^ 63 * x) shape)) in
       (omega (arith, h-high), omega (arith, h-low))
 
-  pub by-reciprocal : (up : Bool) → (h + cond up 2147483647 0) / 2147483648 ≡ whole-part up (n / k) (ltb 0 (n % k))
+  pub by-reciprocal : (up : Bool) → whole-part up (h / 2147483648) (ltb 0 (h % 2147483648)) ≡ whole-part up (n / k) (ltb 0 (n % k))
   by-reciprocal up =
-      raised-quotient h 2147483648 (lit< tt) up ∙
       ⊎-elim
       (λ z.
       let e = exact z in
@@ -85,9 +83,6 @@ module _ (k : ℕ) (kp : 0 < k) (kl : k ≤ 2 ^ 25) where
 
   pub whole-fits : whole < 2 ^ 64
   whole-fits = omega (arith, pow-mono few)
-
-  pub kept : whole % 2 ^ 64 ≡ whole
-  kept = mod-eq-of-lt whole-fits
 
   pub rest-fits : whole % k * 4294967296 + (k - 1) < 2 ^ 64
   rest-fits = omega (arith, mod-lt whole kp)
@@ -138,5 +133,5 @@ module _ (m : ℕ) (ml : m < 2 ^ 32) (r : Reciprocal) (i : IsReciprocal r) where
   pub low-product : m * r .low < 2 ^ 64
   low-product = omega (arith, mul-le-mul-left m (i .low-fits))
 
-  pub quotient-is : (up : Bool) → (m * all / 2 ^ 32 + cond up 2147483647 0) / 2147483648 ≡ whole-part up (m * 2 ^ r .bits / r .k) (ltb 0 (m * 2 ^ r .bits % r .k))
+  pub quotient-is : (up : Bool) → whole-part up (m * all / 2 ^ 32 / 2147483648) (ltb 0 (m * all / 2 ^ 32 % 2147483648)) ≡ whole-part up (m * 2 ^ r .bits / r .k) (ltb 0 (m * 2 ^ r .bits % r .k))
   quotient-is = by-reciprocal m (r .k) (2 ^ r .bits) all ml (i .some) (i .small) (i .above) (i .near)

@@ -3,7 +3,7 @@ use mathlib.Core.Path.{_≡_, refl, sym, _∙_, ap}
 use mathlib.Core.Bool.{Bool, true, false, cond, _&&_, _||_}
 use mathlib.Core.Logic.{⊎-elim}
 use Prim.Native.Nat.{ℕ, zero, suc, _+_, _-_, _*_, _/_, _%_, _^_, _≤_, _<_}
-use native.Mathlib.Nat.{div-eq-of-lt, div-le-self, mul-add-div-right, mul-le-mul-left, div-add-mod', mod-lt, eq-zero-or-pos}
+use native.Mathlib.Nat.{div-eq-of-lt, div-lt-iff-lt-mul, mul-add-div-right, div-add-mod', mod-lt, eq-zero-or-pos}
 use native.Mathlib.Omega.{arith}
 use borrow.Author.Tests.{lt-ltb, le-ltb}
 use lib.Dec.{ltb}
@@ -21,21 +21,19 @@ pub whole-down : (h : ℕ) (s : Bool) → whole-part false h s ≡ h
 unfolding whole-part
 whole-down h s = omega arith
 
-pub whole-cut : (h r : ℕ) → 0 < r → whole-part true h (ltb 0 r) ≡ h + 1
+-- with a rest
+pub whole-else : (up : Bool) (h r : ℕ) → (r ≡ 0 → ⊥) → whole-part up h (ltb 0 r) ≡ h + cond up 1 0
 unfolding whole-part
-whole-cut h r p = rw (lt-ltb 0 r p)
+whole-else true h r p = rw (lt-ltb 0 r (omega (arith, p)))
+whole-else false h r p = refl
+
+whole-cut : (h r : ℕ) → 0 < r → whole-part true h (ltb 0 r) ≡ h + 1
+whole-cut h r p = whole-else true h r (λ z. omega arith)
 
 pub whole-none : (up : Bool) (h r : ℕ) → r ≡ 0 → whole-part up h (ltb 0 r) ≡ h
 unfolding whole-part
 whole-none false h r p = omega arith
 whole-none true h r p = rw (le-ltb 0 r (omega arith)) (omega arith)
-
--- at most one above
-pub whole-le : (up : Bool) (h : ℕ) (s : Bool) → whole-part up h s ≤ h + 1
-unfolding whole-part
-whole-le false h s = omega arith
-whole-le true h true = omega arith
-whole-le true h false = omega arith
 
 module _ (n d : ℕ) (dp : 0 < d) where
   shape : n ≡ n / d * d + n % d
@@ -77,20 +75,13 @@ module _ (n d : ℕ) (dp : 0 < d) where
       below zero p e = let f : ⊥ = omega arith in absurd f
       below (suc q) p e = let k : suc q - 1 ≡ q = omega arith in rw k (omega arith)
 
-pub more-le : (up : Bool) (k : ℕ) → cond up k 0 ≤ k
-more-le true k = omega arith
-more-le false k = omega arith
-
--- of a quotient of y: at most y
-pub whole-under : (up : Bool) (y d r : ℕ) → 0 < d → r ≡ whole-part up (y / d) (ltb 0 (y % d)) → r ≤ y
-whole-under up y d r dp e = rw e (go up)
+-- of a quotient that is at most b
+pub whole-le : (up : Bool) (n d b r : ℕ) → 0 < d → n ≤ b * d → r ≡ whole-part up (n / d) (ltb 0 (n % d)) → r ≤ b
+whole-le up n d b r dp l e = let h : r < b + 1 = rw (e, ← raised-quotient n d dp up) (div-lt-iff-lt-mul dp .1 (less up)) in omega arith
   where
-    go : (up : Bool) → whole-part up (y / d) (ltb 0 (y % d)) ≤ y
-    go false = rw (whole-down (y / d) (ltb 0 (y % d))) (div-le-self y d)
-    go true =
-        ⊎-elim (λ z. rw (whole-none true (y / d) (y % d) z) (div-le-self y d))
-        (λ p. rw (whole-cut (y / d) (y % d) p) (omega (arith, div-add-mod' y d, mul-le-mul-left (y / d) dp)))
-        (eq-zero-or-pos (y % d))
+    less : (up : Bool) → n + cond up (d - 1) 0 < (b + 1) * d
+    less true = omega arith
+    less false = omega arith
 
 -- with m more
 pub whole-more : (up : Bool) (m h r : ℕ) (s : Bool) → r ≡ whole-part up h s → m + r ≡ whole-part up (m + h) s

@@ -1,75 +1,82 @@
-// Rounding to 32 significant bits: h × 2^e and, where s is true, a positive rest below 2^e.
+// Whole parts, and their rounding to 32 significant bits.
 ghost use mathlib.Core.Path.{_≡_};
-ghost use mathlib.Core.Bool.{_&&_, _||_};
-ghost use Prim.Native.Nat.{_+_, _^_, _≤_, _<_};
+ghost use mathlib.Core.Bool.{cond};
+ghost use Prim.Native.Nat.{_+_, _-_, _*_, _/_, _%_, _^_, _≤_, _<_};
 ghost use lib.Dec.{ltb};
-ghost use lib.IntN.{pos, _+ℤ_};
+ghost use lib.Ieee.{size};
 ghost use Rattle.exact.specs.Integer.{posPart};
-ghost use Rattle.exact.specs.Private.Round.{finish as finishOf, pack, inexact};
+ghost use Rattle.encounter.specs.Private.Loops.{narrow, whole-part, Fitted};
 use crate::arithmetic::exponent::raised;
-use exact::Scaled;
+use crate::arithmetic::wide::Wide;
 
-// A rounded number, and whether the rounding lost anything.
-pub struct Rounded {
-    pub value: Scaled,
-    pub lost: bool,
+// How many bits n has.
+pub fn bits(n: u64) -> u64
+    requires { ⌜ 0 < n ⌝ }
+    ensures { λ r. ⌜ r ≡ size n ⌝ }
+{
+    (64 - u64::leading_zeros(n)) as u64
 }
 
-fn both(a: bool, b: bool) -> bool
-    ensures { λ r. ⌜ r ≡ (a && b) ⌝ }
+// n followed by t zeros.
+pub fn followed(n: u64, t: u64) -> u64
+    requires { ⌜ (t < 64) × (n * 2 ^ t < 2 ^ 64) ⌝ }
+    ensures { λ r. ⌜ r ≡ n * 2 ^ t ⌝ }
 {
-    if a {
-        return b;
+    n << t
+}
+
+// n, and k more where up is true.
+fn upward(up: bool, n: u64, k: u64) -> u64
+    requires { ⌜ n + k < 2 ^ 64 ⌝ }
+    ensures { λ r. ⌜ r ≡ n + cond up k 0 ⌝ }
+{
+    if up {
+        return n + k;
     }
-    false
+    n
 }
 
-// Whether something is cut off: before, or by this rest.
-fn cut(s: bool, rest: u64) -> bool
-    ensures { λ r. ⌜ r ≡ (s || ltb 0 rest) ⌝ }
+// n / k, or where up is true the whole number at or above it.
+pub fn divided(up: bool, n: u64, k: u64) -> u64
+    requires { ⌜ (0 < k) × (n + (k - 1) < 2 ^ 64) ⌝ }
+    ensures { λ r. ⌜ r ≡ whole-part up (n / k) (ltb 0 (n % k)) ⌝ }
 {
-    if s {
-        return true;
+    upward(up, n, k - 1) / k
+}
+
+// How many zeros follow n so that it is from 2^15 × k to below 2^16 × k.
+pub fn room(n: u64, k: u64) -> u64
+    requires { ⌜ (0 < n) × (n < 2 ^ 48) × (2 ^ 47 ≤ k) × (k < 2 ^ 48) ⌝ }
+    ensures { λ r. ⌜ (r < 64) × (2 ^ 15 * k ≤ n * 2 ^ r) × (n * 2 ^ r < 2 ^ 16 * k) ⌝ }
+{
+    let t = 64 - bits(n);
+    if followed(n, t) / 65536 < k {
+        return t;
     }
-    0 < rest
+    t - 1
 }
 
-// m × 2^e, or the next scaled number above it.
-fn finish(m: u32, e: i32, on: bool) -> Scaled
-    requires { ⌜ posPart e + 1 < 2 ^ 31 ⌝ }
-    ensures { λ r. ⌜ r ≡ finishOf 32 m e on ⌝ }
+// n followed by t zeros and 16 more, divided by k, or where up is true the whole number at or above it.
+pub fn long_division(up: bool, n: u64, t: u64, k: u64) -> u64
+    requires { ⌜ (k < 2 ^ 48) × (t < 64) × (n * 2 ^ t < 2 ^ 16 * k) ⌝ }
+    ensures { λ r. ⌜ r ≡ whole-part up (n * 2 ^ t * 65536 / k) (ltb 0 (n * 2 ^ t * 65536 % k)) ⌝ }
 {
-    if on {
-        if m == 4294967295 {
-            let next = raised(e, 1);
-            Scaled {
-                m: 2147483648,
-                e: next,
-            }
-        } else {
-            Scaled { m: m + 1, e }
-        }
-    } else {
-        Scaled { m, e }
+    let x = followed(n, t);
+    let rest = x % k * 65536;
+    let q = x / k * 65536 + rest / k;
+    if rest % k == 0 {
+        return q;
     }
+    upward(up, q, 1)
 }
 
-// h × 2^e by its parts: m, the bits of h from the t-th on, and the rest below them.
-fn trim(up: bool, m: u32, e: i32, t: u32, s: bool, rest: u64) -> Rounded
-    requires { ⌜ (posPart e + t) + 1 < 2 ^ 31 ⌝ }
-    ensures { λ r. ⌜ (r .value ≡ finishOf 32 m (e +ℤ pos t) (up && (s || ltb 0 rest))) × (r .lost ≡ (s || ltb 0 rest)) ⌝ }
+// a × 2^e, for a of 32 or 33 bits: m is a, or half of it.
+pub fn fit(up: bool, a: u64, e: i64) -> Wide
+    requires { ⌜ (a + 1 < 2 ^ 33) × (posPart e < 2 ^ 32) ⌝ }
+    ensures { λ r. ⌜ Fitted up a e (narrow r) ⌝ }
 {
-    let lost = cut(s, rest);
-    let value = finish(m, raised(e, t), both(up, lost));
-    Rounded { value, lost }
-}
-
-// For h of 32 bits or more.
-pub fn pack_any(up: bool, h: u64, e: i32, s: bool) -> Rounded
-    requires { ⌜ (2 ^ 31 ≤ h) × (posPart e + 33 < 2 ^ 31) ⌝ }
-    ensures { λ r. ⌜ (r .value ≡ pack up 32 h e s) × (r .lost ≡ inexact 32 h s) ⌝ }
-{
-    let t = 32 - u64::leading_zeros(h);
-    let top = h >> t;
-    trim(up, top as u32, e, t, s, h - (top << t))
+    let c = a / 4294967296;
+    let m = upward(up, a, c) >> c;
+    let f = raised(e, c);
+    Wide { m, e: f }
 }

@@ -1,17 +1,23 @@
 // The arithmetic on scaled numbers in two machine words: each operation answers D (up is false) or U (up is true) of the exact value.
 ghost use mathlib.Core.Path.{_≡_};
-ghost use mathlib.Core.Bool.{cond};
-ghost use Prim.Native.Nat.{_+_, _*_, _/_, _%_, _^_, _≤_, _<_, min};
+ghost use Prim.Native.Nat.{_*_, _/_, _%_, _^_, _≤_, _<_, min};
 ghost use lib.Dec.{ltb};
 ghost use lib.IntN.{pos, _+ℤ_, _-ℤ_};
-ghost use mir.Syntax.{w64};
-ghost use mir.Val.{SFits};
-ghost use Rattle.exact.specs.Fraction.{_⊕_, _⊗_, _÷_};
+ghost use Rattle.exact.specs.Fraction.{_⊕_, _⊗_, _÷_, _⊘_, at-most};
 ghost use Rattle.exact.specs.Integer.{posPart, negPart};
-ghost use Rattle.exact.specs.Scaled.{value, half, Normal};
+ghost use Rattle.exact.specs.Scaled.{value, with-exponent, half, Normal};
 ghost use Rattle.exact.specs.Private.Ranges.{InRange};
 ghost use Rattle.exact.specs.Private.Round.{round};
-ghost use Rattle.encounter.specs.Private.Loops.{narrow, whole-part, Fitted, IsReciprocal};
+ghost use Rattle.encounter.specs.Private.Loops.{narrow, whole-part, IsReciprocal};
+use crate::arithmetic::exponent::gap;
+use crate::arithmetic::exponent::lowered;
+use crate::arithmetic::exponent::minus;
+use crate::arithmetic::exponent::plus;
+use crate::arithmetic::exponent::raised;
+use crate::arithmetic::rounding::bits;
+use crate::arithmetic::rounding::divided;
+use crate::arithmetic::rounding::fit;
+use crate::arithmetic::rounding::followed;
 use exact::Scaled;
 
 // m × 2^e.
@@ -37,67 +43,6 @@ pub fn narrowed(a: Wide) -> Scaled
     Scaled { m, e }
 }
 
-fn plus(a: i64, b: i64) -> i64
-    requires { ⌜ SFits w64 (a +ℤ b) ⌝ }
-    ensures { λ r. ⌜ r ≡ a +ℤ b ⌝ }
-{
-    a + b
-}
-
-fn raised(e: i64, t: u64) -> i64
-    requires { ⌜ posPart e + t < 2 ^ 63 ⌝ }
-    ensures { λ r. ⌜ r ≡ e +ℤ pos t ⌝ }
-{
-    e + (t as i64)
-}
-
-fn lowered(e: i64, t: u64) -> i64
-    requires { ⌜ negPart e + t < 2 ^ 63 ⌝ }
-    ensures { λ r. ⌜ r ≡ e -ℤ pos t ⌝ }
-{
-    e - (t as i64)
-}
-
-// d, or 0 where d is negative.
-fn positive(d: i64) -> u64
-    ensures { λ r. ⌜ r ≡ posPart d ⌝ }
-{
-    if d < 0 {
-        return 0;
-    }
-    d as u64
-}
-
-// By how much a is above b, or 0 where it is not.
-fn gap(a: i64, b: i64) -> u64
-    requires { ⌜ SFits w64 (a -ℤ b) ⌝ }
-    ensures { λ r. ⌜ r ≡ posPart (a -ℤ b) ⌝ }
-{
-    positive(a - b)
-}
-
-// n, and k more where up is true.
-fn upward(up: bool, n: u64, k: u64) -> u64
-    requires { ⌜ n + k < 2 ^ 64 ⌝ }
-    ensures { λ r. ⌜ r ≡ n + cond up k 0 ⌝ }
-{
-    if up {
-        return n + k;
-    }
-    n
-}
-
-// a × 2^e, for a of 32 or 33 bits: m is a, or half of it.
-fn fit(up: bool, a: u64, e: i64) -> Wide
-    requires { ⌜ (a + 1 < 2 ^ 33) × (posPart e < 2 ^ 32) ⌝ }
-    ensures { λ r. ⌜ Fitted up a e (narrow r) ⌝ }
-{
-    let c = a / 4294967296;
-    let m = upward(up, a, c) >> c;
-    let f = raised(e, c);
-    Wide { m, e: f }
-}
-
 // a × b.
 pub fn product(up: bool, a: Wide, b: Wide) -> Wide
     requires { ⌜ (InRange 32 (2 ^ 28) (narrow a)) × (InRange 32 (2 ^ 28) (narrow b)) ⌝ }
@@ -112,7 +57,7 @@ pub fn product(up: bool, a: Wide, b: Wide) -> Wide
         return Wide { m: 0, e: 0 };
     }
     let e = raised(plus(x, y), 31);
-    fit(up, upward(up, h, 2147483647) / 2147483648, e)
+    fit(up, divided(up, h, 2147483648), e)
 }
 
 // The shift for a gap of g: 63 already leaves nothing of a mantissa.
@@ -179,10 +124,10 @@ pub fn over(up: bool, a: Wide, k: u64) -> Wide
     if m == 0 {
         return a;
     }
-    let bits = (64 - u64::leading_zeros(k)) as u64;
-    let n = m << bits;
-    let e = lowered(x, bits);
-    fit(up, upward(up, n, k - 1) / k, e)
+    let t = bits(k);
+    let n = followed(m, t);
+    let e = lowered(x, t);
+    fit(up, divided(up, n, k), e)
 }
 
 // What a division by k has in common with every other by k.
@@ -197,11 +142,16 @@ pub fn reciprocal_of(k: u64) -> Reciprocal
     requires { ⌜ (0 < k) × (k ≤ 2 ^ 25) ⌝ }
     ensures { λ r. ⌜ (r .k ≡ k) × IsReciprocal r ⌝ }
 {
-    let bits = (64 - u64::leading_zeros(k)) as u64;
-    let n = 2147483648 << bits;
+    let t = bits(k);
+    let n = followed(2147483648, t);
     let high = n / k;
     let low = (n % k * 4294967296 + (k - 1)) / k;
-    Reciprocal { k, bits, high, low }
+    Reciprocal {
+        k,
+        bits: t,
+        high,
+        low,
+    }
 }
 
 // a / k, by the reciprocal of k.
@@ -219,7 +169,21 @@ pub fn over_by(up: bool, a: Wide, by: Reciprocal) -> Wide
     }
     let h = m * high + m * low / 4294967296;
     let e = lowered(x, bits);
-    fit(up, upward(up, h, 2147483647) / 2147483648, e)
+    fit(up, divided(up, h, 2147483648), e)
+}
+
+// a / 2^k, exactly.
+pub fn moved(a: Wide, k: i64) -> Wide
+    requires { ⌜ (InRange 32 (2 ^ 28) (narrow a)) × (posPart k ≤ 2 ^ 28) × (negPart k ≤ 2 ^ 28) ⌝ }
+    ensures { λ r. ⌜ narrow r ≡ with-exponent (narrow a) (a .e -ℤ k) ⌝ }
+{
+    let m = a.m;
+    let x = a.e;
+    if m == 0 {
+        return a;
+    }
+    let e = minus(x, k);
+    Wide { m, e }
 }
 
 // a / 2, exactly.
@@ -227,11 +191,35 @@ pub fn halved(a: Wide) -> Wide
     requires { ⌜ InRange 32 (2 ^ 28) (narrow a) ⌝ }
     ensures { λ r. ⌜ narrow r ≡ half (narrow a) ⌝ }
 {
-    let m = a.m;
-    let x = a.e;
-    if m == 0 {
-        return a;
+    moved(a, 1)
+}
+
+// a / b, where b is not zero: by b's mantissa, its exponent taken from a's.
+pub fn quotient(up: bool, a: Wide, b: Wide) -> Wide
+    requires { ⌜ (InRange 32 (2 ^ 27) (narrow a)) × (InRange 32 (2 ^ 27) (narrow b)) × (Normal 32 (narrow b)) ⌝ }
+    ensures { λ r. ⌜ narrow r ≡ round up 32 (value (narrow a) ⊘ value (narrow b)) ⌝ }
+{
+    over(up, moved(a, b.e), b.m)
+}
+
+// Whether a is at most b.
+pub fn at_most(a: Wide, b: Wide) -> bool
+    requires { ⌜ (InRange 32 (2 ^ 28) (narrow a)) × (InRange 32 (2 ^ 28) (narrow b)) ⌝ }
+    ensures { λ r. ⌜ r ≡ at-most (value (narrow a)) (value (narrow b)) ⌝ }
+{
+    if a.m == 0 {
+        return true;
     }
-    let e = lowered(x, 1);
-    Wide { m, e }
+    if b.m == 0 {
+        return false;
+    }
+    let x = a.e;
+    let y = b.e;
+    if 0 < gap(y, x) {
+        return true;
+    }
+    if 0 < gap(x, y) {
+        return false;
+    }
+    a.m <= b.m
 }

@@ -10,7 +10,6 @@ ghost use Rattle.exact.specs.Private.Ranges.{InRange, Bounds, Letters-in};
 ghost use Rattle.exact.specs.Private.Round.{round};
 ghost use Rattle.exact.specs.Steps.{add, bound as boundOf, side-letters, side-start};
 ghost use Rattle.encounter.specs.Private.Held.{held-letters, step-letters};
-use crate::arithmetic::exponent::gap;
 use crate::arithmetic::scaled::halved;
 use crate::arithmetic::scaled::product;
 use crate::arithmetic::scaled::ratio;
@@ -32,7 +31,10 @@ fn magnitude(z: i32) -> u32
     requires { ⌜ natAbs z ≤ largest-length ⌝ }
     ensures { λ r. ⌜ r ≡ natAbs z ⌝ }
 {
-    gap(z, 0) + gap(0, z)
+    if z < 0 {
+        return (0 - z) as u32;
+    }
+    z as u32
 }
 
 // x² / (2y²).

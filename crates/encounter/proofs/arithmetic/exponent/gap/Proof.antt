@@ -1,5 +1,6 @@
+use mir.Syntax.{w64}
 use mir.Facts.{toZ-ofZ}
-use Rattle.exact.proofs.Signed.{back}
+use Rattle.exact.proofs.Signed.{back-in}
 use borrow.Author.Needs.{needs}
 use Rattle.encounter.proofs.arithmetic.exponent.gap.Statement.{statement}
 use Rattle.encounter.proofs.arithmetic.exponent.gap.Tie as tie
@@ -12,7 +13,8 @@ positive-requires c κs = search needs
 
 returns : tie.Need-returns
 returns c =
-    rw (c .positive .ensures, back (c .before .minus .result) (c .before .minus .ok), c .before .minus .ensures, toZ-ofZ (c .before .before .fits .a), toZ-ofZ (c .before .before .fits .b))
+    let z = c .before .before in
+    rw (c .positive .ensures, back-in w64 (c .before .minus .result) (c .before .minus .ok), c .before .minus .ensures, toZ-ofZ (z .fits .a), toZ-ofZ (z .fits .b))
 
 pub gap-spec : {M : Type 1} → statement M
 gap-spec = tie.close (tie.spec minus-requires positive-requires returns)

@@ -10,14 +10,14 @@ use Rattle.encounter.proofs.arithmetic.scaled.halved.Tie as tie
 widen-requires : tie.Need-widen-requires
 widen-requires c κs = search needs
 
-halved-requires : tie.Need-halved-requires
-halved-requires c κs = rw (c .widen .ensures) (c .before .pre)
+moved-requires : tie.Need-moved-requires
+moved-requires c κs = (rw (c .widen .ensures) (c .before .pre), lit≤ tt, lit≤ tt)
 
 narrowed-requires : tie.Need-narrowed-requires
-narrowed-requires c κs = widen (lit≤ tt) (half-of (c .halved .ensures ∙ ap half (c .before .widen .ensures)) (c .before .before .pre))
+narrowed-requires c κs = widen (lit≤ tt) (half-of (c .moved .ensures ∙ ap half (c .before .widen .ensures)) (c .before .before .pre))
 
 returns : tie.Need-returns
-returns c = c .narrowed .ensures ∙ c .before .halved .ensures ∙ ap half (c .before .before .widen .ensures)
+returns c = c .narrowed .ensures ∙ c .before .moved .ensures ∙ ap half (c .before .before .widen .ensures)
 
 pub halved-spec : {M : Type 1} → statement M
-halved-spec = tie.close (tie.spec widen-requires halved-requires narrowed-requires returns)
+halved-spec = tie.close (tie.spec widen-requires moved-requires narrowed-requires returns)

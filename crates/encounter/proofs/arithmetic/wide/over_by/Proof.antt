@@ -1,5 +1,5 @@
 use mathlib.Core.Path.{sym, _∙_}
-use Prim.Native.Nat.{_≤_, _^_}
+use Prim.Native.Nat.{_*_, _^_, _≤_}
 use native.Mathlib.Nat.{le-of-lt}
 use native.Mathlib.Omega.{arith}
 use lib.Dec.{lit<}
@@ -11,9 +11,9 @@ use Rattle.exact.proofs.Integers.{pos-diff}
 use Rattle.exact.proofs.Signed.{back-in}
 use Rattle.exact.proofs.Packing.{scaled-high}
 use Rattle.exact.proofs.Operations.{normal, none, wide, over-packs, over-none}
-use Rattle.exact.proofs.Ranges.{in-fits-64}
+use Rattle.exact.proofs.Ranges.{in-fits}
 use Rattle.encounter.specs.Private.Loops.{narrow}
-use Rattle.encounter.proofs.arithmetic.WholeParts.{more-le}
+use Rattle.encounter.proofs.arithmetic.WholeParts.{whole-le}
 use Rattle.encounter.proofs.arithmetic.Reciprocals.{few, formed, h-le, low-product, quotient-is}
 use Rattle.encounter.proofs.arithmetic.wide.over_by.Statement.{statement}
 use Rattle.encounter.proofs.arithmetic.wide.over_by.Tie as tie
@@ -39,21 +39,21 @@ add-h c =
 lowered-requires : tie.Need-lowered-requires
 lowered-requires c κs =
     let z = c .before .before in
-    rw (toZ-ofZ (in-fits-64 (z .pre .0))) (omega (arith, z .pre .0 .below, z .pre .1 .bits-are, few (z .args .by .k) (z .pre .1 .some) (z .pre .1 .small)))
+    rw (toZ-ofZ (in-fits (z .pre .0))) (omega (arith, z .pre .0 .below, z .pre .1 .bits-are, few (z .args .by .k) (z .pre .1 .some) (z .pre .1 .small)))
 
-upward-requires : tie.Need-upward-requires
-upward-requires c κs =
+divided-requires : tie.Need-divided-requires
+divided-requires c κs =
     let z = c .before .before .before in
     let ml = scaled-high (z .pre .0 .is-scaled) in
-    omega (arith, ml, formed (z .args .a .m) ml (z .args .by) (z .pre .1), h-le (z .args .a .m) ml (z .args .by) (z .pre .1))
+    (lit< tt, omega (arith, ml, formed (z .args .a .m) ml (z .args .by) (z .pre .1), h-le (z .args .a .m) ml (z .args .by) (z .pre .1)))
 
 fit-requires : tie.Need-fit-requires
 fit-requires c κs =
     let z = c .before .before .before .before in
     let l = c .before .lowered in
     let ml = scaled-high (z .pre .0 .is-scaled) in (
-      omega (arith, ml, c .upward .ensures, more-le (z .args .up) 2147483647, formed (z .args .a .m) ml (z .args .by) (z .pre .1), h-le (z .args .a .m) ml (z .args .by) (z .pre .1)),
-      rw (back-in w64 (l .result) (l .ok), l .ensures, toZ-ofZ (in-fits-64 (z .pre .0))) (omega (arith, z .pre .0 .above, pos-diff (z .args .a .e) (pos (z .args .by .bits)))),
+      omega (arith, ml, whole-le _ _ _ (2 * z .args .a .m) _ (lit< tt) (omega (arith, formed (z .args .a .m) ml (z .args .by) (z .pre .1), h-le (z .args .a .m) ml (z .args .by) (z .pre .1))) (c .divided .ensures)),
+      rw (back-in w64 (l .result) (l .ok), l .ensures, toZ-ofZ (in-fits (z .pre .0))) (omega (arith, z .pre .0 .above, pos-diff (z .args .a .e) (pos (z .args .by .bits)))),
     )
 
 returns-2 : tie.Need-returns-2
@@ -66,11 +66,11 @@ returns-2 c =
     let m = normal (z .pre .0 .is-scaled) (c .before .before .before .if1 .left) in
     let kl : k ≤ 2 ^ z .args .by .bits = rw (i .bits-are) (le-of-lt (size-lt k)) in
     let low = wide 32 (z .args .by .bits) (z .args .a .m) k (i .some) kl (m .low) in
-    let whole = rw (← formed (z .args .a .m) ml (z .args .by) i, ← c .before .upward .ensures) at (quotient-is (z .args .a .m) ml (z .args .by) i (z .args .up)) in
-    (rw (back-in w64 (l .result) (l .ok), l .ensures, toZ-ofZ (in-fits-64 (z .pre .0))) at (c .fit .ensures))
-    _ _ (omega (arith, low)) whole ∙ over-packs (z .args .up) 32 (z .args .by .bits) (narrow (z .args .a)) k (lit< tt) m (i .some) kl .is
+    let a = rw (formed (z .args .a .m) ml (z .args .by) i, quotient-is (z .args .a .m) ml (z .args .by) i (z .args .up)) at (c .before .divided .ensures) in
+    (rw (back-in w64 (l .result) (l .ok), l .ensures, toZ-ofZ (in-fits (z .pre .0))) at (c .fit .ensures))
+    _ _ (omega (arith, low)) a ∙ over-packs (z .args .up) 32 (z .args .by .bits) (narrow (z .args .a)) k (lit< tt) m (i .some) kl .is
 
 pub over-by-spec : {M : Type 1} → statement M
 over-by-spec =
     tie.close
-    (tie.spec returns mul-h mul-h-2 add-h lowered-requires upward-requires fit-requires returns-2)
+    (tie.spec returns mul-h mul-h-2 add-h lowered-requires divided-requires fit-requires returns-2)

@@ -10,9 +10,9 @@ use Rattle.exact.proofs.Integers.{pos-add}
 use Rattle.exact.proofs.Signed.{back-in, sum-fits-in}
 use Rattle.exact.proofs.Packing.{scaled-high}
 use Rattle.exact.proofs.Operations.{normal, product-high-packs, product-none}
-use Rattle.exact.proofs.Ranges.{in-fits-64, below-square}
+use Rattle.exact.proofs.Ranges.{in-fits, below-square}
 use Rattle.encounter.specs.Private.Loops.{narrow}
-use Rattle.encounter.proofs.arithmetic.WholeParts.{raised-quotient, more-le}
+use Rattle.encounter.proofs.arithmetic.WholeParts.{whole-le}
 use Rattle.encounter.proofs.arithmetic.wide.product.Statement.{statement}
 use Rattle.encounter.proofs.arithmetic.wide.product.Tie as tie
 
@@ -32,26 +32,26 @@ returns c = let z = c .before .before .before in sym (product-none (z .args .up)
 plus-requires : tie.Need-plus-requires
 plus-requires c κs =
     let z = c .before .before .before in
-    rw (toZ-ofZ (in-fits-64 (z .pre .0)), toZ-ofZ (in-fits-64 (z .pre .1))) (sum-fits-in w64 (z .args .a .e) (z .args .b .e) (omega (arith, z .pre .0 .above, z .pre .1 .above)) (omega (arith, z .pre .0 .below, z .pre .1 .below)))
+    rw (toZ-ofZ (in-fits (z .pre .0)), toZ-ofZ (in-fits (z .pre .1))) (sum-fits-in w64 (z .args .a .e) (z .args .b .e) (omega (arith, z .pre .0 .above, z .pre .1 .above)) (omega (arith, z .pre .0 .below, z .pre .1 .below)))
 
 raised-requires : tie.Need-raised-requires
 raised-requires c κs =
     let z = c .before .before .before .before in
-    rw (back-in w64 (c .plus .result) (c .plus .ok), c .plus .ensures, toZ-ofZ (in-fits-64 (z .pre .0)), toZ-ofZ (in-fits-64 (z .pre .1)))
+    rw (back-in w64 (c .plus .result) (c .plus .ok), c .plus .ensures, toZ-ofZ (in-fits (z .pre .0)), toZ-ofZ (in-fits (z .pre .1)))
     (omega (arith, z .pre .0 .above, z .pre .1 .above, pos-add (z .args .a .e) (z .args .b .e)))
 
-upward-requires : tie.Need-upward-requires
-upward-requires c κs =
+divided-requires : tie.Need-divided-requires
+divided-requires c κs =
     let z = c .before .before .before .before .before in
-    omega (arith, most (scaled-high (z .pre .0 .is-scaled)) (scaled-high (z .pre .1 .is-scaled)))
+    (lit< tt, omega (arith, most (scaled-high (z .pre .0 .is-scaled)) (scaled-high (z .pre .1 .is-scaled))))
 
 fit-requires : tie.Need-fit-requires
 fit-requires c κs =
     let z = c .before .before .before .before .before .before in
     let p = c .before .before .plus in
     let r = c .before .raised in (
-      omega (arith, c .upward .ensures, more-le (z .args .up) 2147483647, most (scaled-high (z .pre .0 .is-scaled)) (scaled-high (z .pre .1 .is-scaled))),
-      rw (back-in w64 (r .result) (r .ok), r .ensures, back-in w64 (p .result) (p .ok), p .ensures, toZ-ofZ (in-fits-64 (z .pre .0)), toZ-ofZ (in-fits-64 (z .pre .1)))
+      omega (arith, whole-le _ _ _ 8589934590 _ (lit< tt) (omega (arith, most (scaled-high (z .pre .0 .is-scaled)) (scaled-high (z .pre .1 .is-scaled)))) (c .divided .ensures)),
+      rw (back-in w64 (r .result) (r .ok), r .ensures, back-in w64 (p .result) (p .ok), p .ensures, toZ-ofZ (in-fits (z .pre .0)), toZ-ofZ (in-fits (z .pre .1)))
           (omega (arith, z .pre .0 .above, z .pre .1 .above, pos-add (z .args .a .e) (z .args .b .e), pos-add (z .args .a .e +ℤ z .args .b .e) (pos 31))),
     )
 
@@ -65,11 +65,10 @@ returns-2 c =
     let m = normal (z .pre .0 .is-scaled) (λ e. some (rw e (zero-mul (z .args .b .m)))) in
     let n = normal (z .pre .1 .is-scaled) (λ e. some (rw e (mul-zero (z .args .a .m)))) in
     let low : 2 ^ 62 ≤ h = omega (arith, mul-le-mul (m .low) (n .low)) in
-    let whole = rw (← c .before .upward .ensures) at (raised-quotient h 2147483648 (lit< tt) (z .args .up)) in
-    (rw (back-in w64 (r .result) (r .ok), r .ensures, back-in w64 (p .result) (p .ok), p .ensures, toZ-ofZ (in-fits-64 (z .pre .0)), toZ-ofZ (in-fits-64 (z .pre .1))) at (c .fit .ensures))
-    _ _ (omega arith) whole ∙ product-high-packs (z .args .up) 32 31 (narrow (z .args .a)) (narrow (z .args .b)) (lit< tt) (omega arith) .is
+    (rw (back-in w64 (r .result) (r .ok), r .ensures, back-in w64 (p .result) (p .ok), p .ensures, toZ-ofZ (in-fits (z .pre .0)), toZ-ofZ (in-fits (z .pre .1))) at (c .fit .ensures))
+    _ _ (omega arith) (c .before .divided .ensures) ∙ product-high-packs (z .args .up) 32 31 (narrow (z .args .a)) (narrow (z .args .b)) (lit< tt) (omega arith) .is
 
 pub product-spec : {M : Type 1} → statement M
 product-spec =
     tie.close
-    (tie.spec mul-h returns plus-requires raised-requires upward-requires fit-requires returns-2)
+    (tie.spec mul-h returns plus-requires raised-requires divided-requires fit-requires returns-2)

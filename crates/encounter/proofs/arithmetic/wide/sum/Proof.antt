@@ -6,7 +6,7 @@ use mir.Facts.{toZ-ofZ}
 use Rattle.exact.proofs.Integers.{gap, gap-above}
 use Rattle.exact.proofs.Signed.{diff-fits-in}
 use Rattle.exact.proofs.Operations.{normal, sum-none, sum-comm}
-use Rattle.exact.proofs.Ranges.{in-fits-64}
+use Rattle.exact.proofs.Ranges.{in-fits}
 use Rattle.encounter.specs.Private.Loops.{narrow}
 use borrow.Author.Needs.{needs}
 use Rattle.encounter.proofs.arithmetic.wide.sum.Statement.{statement}
@@ -25,18 +25,18 @@ returns-2 c =
 gap-requires : tie.Need-gap-requires
 gap-requires c κs =
     let z = c .before .before .before .before .before .before in
-    rw (toZ-ofZ (in-fits-64 (z .pre .0)), toZ-ofZ (in-fits-64 (z .pre .1))) (diff-fits-in w64 (z .args .b .e) (z .args .a .e) (omega (arith, z .pre .0 .below, z .pre .1 .above)) (omega (arith, z .pre .0 .above, z .pre .1 .below)))
+    rw (toZ-ofZ (in-fits (z .pre .0)), toZ-ofZ (in-fits (z .pre .1))) (diff-fits-in w64 (z .args .b .e) (z .args .a .e) (omega (arith, z .pre .0 .below, z .pre .1 .above)) (omega (arith, z .pre .0 .above, z .pre .1 .below)))
 
 gap-requires-2 : tie.Need-gap-requires-2
 gap-requires-2 c κs =
     let z = c .before .before .before .before .before .before .before .before in
-    rw (toZ-ofZ (in-fits-64 (z .pre .0)), toZ-ofZ (in-fits-64 (z .pre .1))) (diff-fits-in w64 (z .args .a .e) (z .args .b .e) (omega (arith, z .pre .0 .above, z .pre .1 .below)) (omega (arith, z .pre .0 .below, z .pre .1 .above)))
+    rw (toZ-ofZ (in-fits (z .pre .0)), toZ-ofZ (in-fits (z .pre .1))) (diff-fits-in w64 (z .args .a .e) (z .args .b .e) (omega (arith, z .pre .0 .above, z .pre .1 .below)) (omega (arith, z .pre .0 .below, z .pre .1 .above)))
 
 aligned-requires : tie.Need-aligned-requires
 aligned-requires c κs =
     let z = c .before .before .before .before .before .before .before .before .before in
-    let a = toZ-ofZ (in-fits-64 (z .pre .0)) in
-    let b = toZ-ofZ (in-fits-64 (z .pre .1)) in (
+    let a = toZ-ofZ (in-fits (z .pre .0)) in
+    let b = toZ-ofZ (in-fits (z .pre .1)) in (
       z .pre .0,
       normal (z .pre .0 .is-scaled) (c .before .before .before .before .before .if2 .left),
       normal (z .pre .1 .is-scaled) (c .before .before .before .before .before .before .before .if1 .left),
@@ -46,7 +46,7 @@ aligned-requires c κs =
 aligned-requires-2 : tie.Need-aligned-requires-2
 aligned-requires-2 c κs =
     let z = c .before .before .before .before .before .before .before .before in
-    let g = rw (toZ-ofZ (in-fits-64 (z .pre .1)), toZ-ofZ (in-fits-64 (z .pre .0))) at (c .before .gap .ensures) in (
+    let g = rw (toZ-ofZ (in-fits (z .pre .1)), toZ-ofZ (in-fits (z .pre .0))) at (c .before .gap .ensures) in (
       z .pre .1,
       normal (z .pre .1 .is-scaled) (c .before .before .before .before .before .before .if1 .left),
       normal (z .pre .0 .is-scaled) (c .before .before .before .before .if2 .left),

@@ -1,48 +1,47 @@
-use mathlib.Core.Path.{_≡_}
-use Prim.Native.Nat.{_+_, _-_}
+use mathlib.Core.Path.{_≡_, sym, subst}
+use mathlib.Core.Bool.{true}
 use native.Mathlib.Omega.{arith}
+use lib.Dec.{T, ltb→lt}
 use lib.IntN.{ℤ, pos, negsuc, natAbs, _-ℤ_}
+use lib.Signed.{ltZ}
 use mir.Facts.{toZ-ofZ}
-use Rattle.exact.specs.Integer.{posPart, negPart}
-use Rattle.exact.proofs.Integers.{pos-diff}
-use Rattle.exact.proofs.Signed.{diff-fits}
+use Rattle.exact.proofs.Integers.{balanced, bal-diff}
+use Rattle.exact.proofs.Signed.{small, nonnegative}
+use borrow.Author.Needs.{needs}
 use Rattle.encounter.proofs.steps.letters.magnitude.Statement.{statement}
 use Rattle.encounter.proofs.steps.letters.magnitude.Tie as tie
 
--- the two parts of z, of which one is 0
-both : (z : ℤ) → posPart z + negPart z ≡ natAbs z
-both (pos n) = omega arith
-both (negsuc n) = omega arith
+-- of a negative z
+turned : (z : ℤ) → ltZ z (pos 0) ≡ true → pos 0 -ℤ z ≡ pos (natAbs z)
+turned (pos n) h = let f : ⊥ = omega (arith, ltb→lt n 0 (subst T (sym h) tt)) in absurd f
+turned (negsuc n) h = balanced _ _ (omega (arith, bal-diff (pos 0) (negsuc n)))
 
-apart : (z : ℤ) → (posPart z - negPart z) + (negPart z - posPart z) ≡ natAbs z
-apart (pos n) = omega arith
-apart (negsuc n) = omega arith
+sub-result : tie.Need-sub-result
+sub-result c =
+    let z = c .before in
+    let t = rw (toZ-ofZ (z .fits .z)) at (c .if1 .taken) in
+    rw (toZ-ofZ (z .fits .z), turned (z .args .z) t) (record { sfits = omega (arith, z .pre) })
 
-gap-requires : tie.Need-gap-requires
-gap-requires c κs =
-    let z = c .args .z in
-    rw (toZ-ofZ (c .fits .z)) (diff-fits z (pos 0) (omega (arith, both z, c .pre)) (omega (arith, both z, c .pre)))
-
-gap-requires-2 : tie.Need-gap-requires-2
-gap-requires-2 c κs =
-    let z = c .before .args .z in
-    rw (toZ-ofZ (c .before .fits .z)) (diff-fits (pos 0) z (omega (arith, both z, c .before .pre)) (omega (arith, both z, c .before .pre)))
-
-add-result : tie.Need-add-result
-add-result c =
-    let z = c .before .before .args .z in
-    let e = toZ-ofZ (c .before .before .fits .z) in
-    let a : c .before .gap .result ≡ posPart (z -ℤ pos 0) = rw e at (c .before .gap .ensures) in
-    let b : c .gap2 .result ≡ posPart (pos 0 -ℤ z) = rw e at (c .gap2 .ensures) in
-    record { fits = omega (arith, a, b, pos-diff z (pos 0), pos-diff (pos 0) z, both z, c .before .before .pre) }
+cast-result : tie.Need-cast-result
+cast-result c =
+    let z = c .before in
+    let t = rw (toZ-ofZ (z .fits .z)) at (c .if1 .taken) in
+    rw (toZ-ofZ (z .fits .z), turned (z .args .z) t, small (natAbs (z .args .z)) (omega (arith, z .pre))) (tt, record { fits = omega (arith, z .pre) })
 
 returns : tie.Need-returns
 returns c =
-    let z = c .before .before .args .z in
-    let e = toZ-ofZ (c .before .before .fits .z) in
-    let a : c .before .gap .result ≡ posPart (z -ℤ pos 0) = rw e at (c .before .gap .ensures) in
-    let b : c .gap2 .result ≡ posPart (pos 0 -ℤ z) = rw e at (c .gap2 .ensures) in
-    omega (arith, a, b, pos-diff z (pos 0), pos-diff (pos 0) z, apart z)
+    let z = c .before in
+    let t = rw (toZ-ofZ (z .fits .z)) at (c .if1 .taken) in
+    rw (toZ-ofZ (z .fits .z), turned (z .args .z) t, small (natAbs (z .args .z)) (omega (arith, z .pre)))
+
+cast-result-2 : tie.Need-cast-result-2
+cast-result-2 c =
+    let z = c .before in
+    let t = rw (toZ-ofZ (z .fits .z)) at (c .if1 .left) in
+    rw (toZ-ofZ (z .fits .z)) (nonnegative (z .args .z) t, record { fits = omega (arith, z .pre) })
+
+returns-2 : tie.Need-returns-2
+returns-2 c = search needs
 
 pub magnitude-spec : {M : Type 1} → statement M
-magnitude-spec = tie.close (tie.spec gap-requires gap-requires-2 add-result returns)
+magnitude-spec = tie.close (tie.spec sub-result cast-result returns cast-result-2 returns-2)

@@ -4,8 +4,8 @@ use mir.Facts.{toZ-ofZ}
 use Rattle.exact.proofs.Signed.{back-in}
 use Rattle.encounter.proofs.arithmetic.WholeParts.{fit-packs}
 use borrow.Author.Needs.{needs}
-use Rattle.encounter.proofs.arithmetic.wide.fit.Statement.{statement}
-use Rattle.encounter.proofs.arithmetic.wide.fit.Tie as tie
+use Rattle.encounter.proofs.arithmetic.rounding.fit.Statement.{statement}
+use Rattle.encounter.proofs.arithmetic.rounding.fit.Tie as tie
 
 upward-requires : tie.Need-upward-requires
 upward-requires c κs = search needs

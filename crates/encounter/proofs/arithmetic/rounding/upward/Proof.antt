@@ -1,7 +1,7 @@
 use native.Mathlib.Omega.{arith}
 use borrow.Author.Needs.{needs}
-use Rattle.encounter.proofs.arithmetic.wide.upward.Statement.{statement}
-use Rattle.encounter.proofs.arithmetic.wide.upward.Tie as tie
+use Rattle.encounter.proofs.arithmetic.rounding.upward.Statement.{statement}
+use Rattle.encounter.proofs.arithmetic.rounding.upward.Tie as tie
 
 add-result : tie.Need-add-result
 add-result c = search needs
