@@ -11,7 +11,7 @@ use encounter::state::Called;
 use encounter::state::Session;
 use exact::Encounter;
 use exact::Scaled;
-use jinthuol::Run;
+use jinthuol::Listing;
 use jinthuol::jinthuol_add;
 use jinthuol::jinthuol_begin;
 use jinthuol::jinthuol_empty;
@@ -112,6 +112,6 @@ pub fn too_long(out: &mut [u8]) -> usize {
     put_too_long(out)
 }
 
-pub fn any_script(script: &[u8], out: &mut [u8]) -> Run {
+pub fn any_script(script: &[u8], out: &mut [u8]) -> Listing {
     jinthuol_run(script, out)
 }
