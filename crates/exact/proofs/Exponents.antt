@@ -111,25 +111,33 @@ module _ (up : Bool) where
   ratio-in : (n d : ℕ) → n < 2 ^ 48 → d < 2 ^ 48 → 0 < d → InRange 32 177 (round up 32 (n over d))
   ratio-in n d nl dl dp = ratio-range up 32 (lit< tt) 48 n d nl dl dp
 
+  -- the fractions of which the letters are formed
+  module _ {E : Encounter} (f : Bounds E) where
+    pub fractions-in : (InRange 32 177 (round up 32 (u E))) × (InRange 32 177 (round up 32 (b E))) × (InRange 32 177 (round up 32 (zx E))) × (InRange 32 177 (round up 32 (zy E))) × (InRange 32 177 (round up 32 (g E)))
+    unfolding u b zx zy g square
+    fractions-in =
+        let R = square-max (E .R) (f .R-max) in
+        let x = mul-le-mul (f .sx-max) (f .sx-max) in
+        let y = mul-le-mul (f .sy-max) (f .sy-max) in
+        let xp = mul-pos (f .sx-pos) (f .sx-pos) in
+        let yp = mul-pos (f .sy-pos) (f .sy-pos) in (
+          ratio-in (E .R * E .R) (2 * (E .sy * E .sy)) R (omega arith) (omega arith),
+          ratio-in (E .R * E .R) (2 * (E .sx * E .sx)) R (omega arith) (omega arith),
+          ratio-in (square (E .xm)) (2 * (E .sx * E .sx)) (square-max (natAbs (E .xm)) (f .xm-max)) (omega arith) (omega arith),
+          ratio-in (square (E .ym)) (2 * (E .sy * E .sy)) (square-max (natAbs (E .ym)) (f .ym-max)) (omega arith) (omega arith),
+          ratio-in (E .sx * E .sx - E .sy * E .sy) (E .sx * E .sx) (omega arith) (omega arith) xp,
+        )
+
   pub letters-in : {E : Encounter} → Bounds E → Letters-in (letters value (round up 32) E)
-  unfolding letters u b zx zy g a₀ square
+  unfolding letters
   letters-in {E} f =
-      let R = square-max (E .R) (f .R-max) in
-      let x = mul-le-mul (f .sx-max) (f .sx-max) in
-      let y = mul-le-mul (f .sy-max) (f .sy-max) in
-      let xp = mul-pos (f .sx-pos) (f .sx-pos) in
-      let yp = mul-pos (f .sy-pos) (f .sy-pos) in
-      let u = ratio-in (E .R * E .R) (2 * (E .sy * E .sy)) R (omega arith) (omega arith) in
-      let b = ratio-in (E .R * E .R) (2 * (E .sx * E .sx)) R (omega arith) (omega arith) in
-      let zx = ratio-in (square (E .xm)) (2 * (E .sx * E .sx)) (square-max (natAbs (E .xm)) (f .xm-max)) (omega arith) (omega arith) in
-      let zy = ratio-in (square (E .ym)) (2 * (E .sy * E .sy)) (square-max (natAbs (E .ym)) (f .ym-max)) (omega arith) (omega arith) in
-      let g = ratio-in (E .sx * E .sx - E .sy * E .sy) (E .sx * E .sx) (omega arith) (omega arith) xp in
+      let i = fractions-in f in
       record {
-        u = u;
-        h = mul-in u g;
-        X = mul-in zx b;
-        Y = mul-in zy u;
-        t = widen (omega arith) (add-in (add-in zx zy) (widen {B = 177 + 1 + 1} (omega arith) u));
+        u = i .0;
+        h = mul-in (i .0) (i .4);
+        X = mul-in (i .2) (i .1);
+        Y = mul-in (i .3) (i .0);
+        t = widen (omega arith) (add-in (add-in (i .2) (i .3)) (widen {B = 177 + 1 + 1} (omega arith) (i .0)));
       }
 
   pub start-in : {E : Encounter} → Bounds E → InRange 32 177 (start value (round up 32) E)

@@ -125,9 +125,8 @@ pub fn over(up: bool, a: Wide, k: u64) -> Wide
         return a;
     }
     let t = bits(k);
-    let n = followed(m, t);
     let e = lowered(x, t);
-    fit(up, divided(up, n, k), e)
+    fit(up, divided(up, followed(m, t), k), e)
 }
 
 // What a division by k has in common with every other by k.

@@ -8,6 +8,7 @@ ghost use Rattle.exact.specs.Numbers.{largest-length};
 ghost use Rattle.exact.specs.Scaled.{value};
 ghost use Rattle.exact.specs.Private.Ranges.{InRange, Bounds, Letters-in};
 ghost use Rattle.exact.specs.Private.Round.{round};
+ghost use Rattle.exact.specs.Series.{u, b, zx, zy, g};
 ghost use Rattle.exact.specs.Steps.{add, bound as boundOf, side-letters, side-start};
 ghost use Rattle.encounter.specs.Private.Held.{held-letters, step-letters};
 use crate::arithmetic::scaled::halved;
@@ -71,9 +72,18 @@ fn three(up: bool, zx: Scaled, zy: Scaled, u: Scaled) -> Scaled
     sum(up, sum(up, zx, zy), u)
 }
 
-pub fn letters(up: bool, E: Encounter) -> Letters
+// What the letters are formed of.
+struct Parts {
+    u: Scaled,
+    b: Scaled,
+    zx: Scaled,
+    zy: Scaled,
+    g: Scaled,
+}
+
+fn fractions(up: bool, E: Encounter) -> Parts
     requires { ⌜ Bounds E ⌝ }
-    ensures { λ r. ⌜ r ≡ held-letters (side-letters up E) ⌝ }
+    ensures { λ r. ⌜ (r .u ≡ round up 32 (u E)) × (r .b ≡ round up 32 (b E)) × (r .zx ≡ round up 32 (zx E)) × (r .zy ≡ round up 32 (zy E)) × (r .g ≡ round up 32 (g E)) ⌝ }
 {
     let R = E.R;
     let sx = E.sx;
@@ -82,10 +92,20 @@ pub fn letters(up: bool, E: Encounter) -> Letters
     let b = squares(up, R, sx);
     let zx = squares(up, magnitude(E.xm), sx);
     let zy = squares(up, magnitude(E.ym), sy);
-    let h = product(up, u, excess(up, sx, sy));
-    let X = product(up, zx, b);
-    let Y = product(up, zy, u);
-    let t = three(up, zx, zy, u);
+    let g = excess(up, sx, sy);
+    Parts { u, b, zx, zy, g }
+}
+
+pub fn letters(up: bool, E: Encounter) -> Letters
+    requires { ⌜ Bounds E ⌝ }
+    ensures { λ r. ⌜ r ≡ held-letters (side-letters up E) ⌝ }
+{
+    let f = fractions(up, E);
+    let u = f.u;
+    let h = product(up, u, f.g);
+    let X = product(up, f.zx, f.b);
+    let Y = product(up, f.zy, u);
+    let t = three(up, f.zx, f.zy, u);
     Letters { u, h, X, Y, t }
 }
 
