@@ -3,27 +3,24 @@
 ghost use mathlib.Core.Path.{_≡_};
 ghost use Rattle.encounter.specs.Session.{empty as empty-session};
 ghost use Rattle.encounter.specs.Calls.{begins, adds, reads, call, Reached};
+ghost use Rattle.jinthuol.specs.Answer.{numbered, called};
 use encounter::calls;
 use encounter::calls::records::take_record;
 use encounter::state::Answer;
+use encounter::state::Called;
 use encounter::state::Session;
 use exact::Encounter;
 use exact::Scaled;
 use jinthuol::Run;
+use jinthuol::jinthuol_add;
+use jinthuol::jinthuol_begin;
+use jinthuol::jinthuol_empty;
+use jinthuol::jinthuol_read;
 use jinthuol::jinthuol_run;
 use listing::put_line;
 use listing::script::Piece;
 use listing::script::put_lines;
 use listing::script::put_too_long;
-
-// What a read answers after a begin and an add.
-pub fn bracket(E: Encounter, count: u16) -> Answer
-    ensures { λ r. ⌜ r ≡ call reads (call (adds count) (call (begins E) empty-session .session) .session) .answer ⌝ }
-{
-    let begun = calls::begin(Session::empty(), E);
-    let added = calls::add(begun.session, count);
-    calls::read(added.session)
-}
 
 // A session of which callers know only that calls left it.
 fn used(E: Encounter, count: u16, script: &[u8], at: usize) -> Session
@@ -36,7 +33,7 @@ fn used(E: Encounter, count: u16, script: &[u8], at: usize) -> Session
 }
 
 // Every call by value on such a session.
-pub fn calls_again(E: Encounter, count: u16, script: &[u8], at: usize, out: &mut [u8]) -> Piece
+pub fn by_value(E: Encounter, count: u16, script: &[u8], at: usize, out: &mut [u8]) -> Piece
     ensures { λ r. ⌜ Reached (r .session) ⌝ }
 {
     let s = used(E, count, script, at);
@@ -47,6 +44,62 @@ pub fn calls_again(E: Encounter, count: u16, script: &[u8], at: usize, out: &mut
     put_lines(script, at, s, out)
 }
 
+// A session that the customer owns, lent for one call.
+fn begin_lent(s: Session, E: Encounter) -> Called
+    requires { ⌜ Reached s ⌝ }
+    ensures { λ r. ⌜ (r ≡ call (begins E) s) × Reached (r .session) ⌝ }
+{
+    let mut t = s;
+    let answer = t.begin(E);
+    Called { answer, session: t }
+}
+
+fn add_lent(s: Session, count: u16) -> Called
+    requires { ⌜ Reached s ⌝ }
+    ensures { λ r. ⌜ (r ≡ call (adds count) s) × Reached (r .session) ⌝ }
+{
+    let mut t = s;
+    let answer = t.add(count);
+    Called { answer, session: t }
+}
+
+// What a read answers after a begin and an add.
+pub fn bracket(E: Encounter, count: u16) -> Answer
+    ensures { λ r. ⌜ r ≡ call reads (call (adds count) (call (begins E) empty-session .session) .session) .answer ⌝ }
+{
+    let begun = begin_lent(Session::empty(), E);
+    let added = add_lent(begun.session, count);
+    calls::read(added.session)
+}
+
+// The same from the exported calls.
+fn begin_exported(s: Session, E: Encounter) -> jinthuol::Called
+    requires { ⌜ Reached s ⌝ }
+    ensures { λ r. ⌜ (r ≡ called (call (begins E) s)) × Reached (r .session) ⌝ }
+{
+    let mut t = s;
+    let answer = jinthuol_begin(&mut t, E);
+    jinthuol::Called { answer, session: t }
+}
+
+fn add_exported(s: Session, count: u16) -> jinthuol::Called
+    requires { ⌜ Reached s ⌝ }
+    ensures { λ r. ⌜ (r ≡ called (call (adds count) s)) × Reached (r .session) ⌝ }
+{
+    let mut t = s;
+    let answer = jinthuol_add(&mut t, count);
+    jinthuol::Called { answer, session: t }
+}
+
+pub fn bracket_exported(E: Encounter, count: u16) -> jinthuol::Answer
+    ensures { λ r. ⌜ r ≡ numbered (call reads (call (adds count) (call (begins E) empty-session .session) .session) .answer) ⌝ }
+{
+    let begun = begin_exported(jinthuol_empty(), E);
+    let added = add_exported(begun.session, count);
+    jinthuol_read(added.session)
+}
+
+// The functions that take no session.
 pub fn any_number(n: u32) -> Scaled {
     Scaled::whole(n)
 }
