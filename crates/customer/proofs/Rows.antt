@@ -1,5 +1,4 @@
 -- The results of both crates as Owning.antt takes them, and the promise of each call by value from that of the lent call.
-use mathlib.Core.Path.{_≡_}
 use denote.Struct.Laws as laws
 use Rattle.encounter.specs.declared.state.Session.{Session}
 use Rattle.encounter.specs.declared.state.Answer.{Answer}
