@@ -1,5 +1,5 @@
 // A customer: it calls every public function of the library as a caller would, with any numbers and bytes, and meets each premise by the promise of the call
-// before. Its own public functions have no premise.
+// before. Only a function that lends a session has a premise here, `Reached`, and its callers start from the empty session.
 ghost use mathlib.Core.Path.{_≡_};
 ghost use Rattle.encounter.specs.Session.{empty as empty-session};
 ghost use Rattle.encounter.specs.Calls.{begins, adds, reads, call, Reached};
@@ -33,7 +33,7 @@ fn used(E: Encounter, count: u16, script: &[u8], at: usize) -> Session
 }
 
 // Every call by value on such a session.
-pub fn by_value(E: Encounter, count: u16, script: &[u8], at: usize, out: &mut [u8]) -> Piece
+fn by_value(E: Encounter, count: u16, script: &[u8], at: usize, out: &mut [u8]) -> Piece
     ensures { λ r. ⌜ Reached (r .session) ⌝ }
 {
     let s = used(E, count, script, at);
@@ -100,18 +100,18 @@ pub fn bracket_exported(E: Encounter, count: u16) -> jinthuol::Answer
 }
 
 // The functions that take no session.
-pub fn any_number(n: u32) -> Scaled {
+fn any_number(n: u32) -> Scaled {
     Scaled::whole(n)
 }
 
-pub fn any_line(out: &mut [u8], at: usize, offset: usize, kind: u8, a: Answer) -> usize {
+fn any_line(out: &mut [u8], at: usize, offset: usize, kind: u8, a: Answer) -> usize {
     put_line(out, at, offset, kind, a)
 }
 
-pub fn too_long(out: &mut [u8]) -> usize {
+fn too_long(out: &mut [u8]) -> usize {
     put_too_long(out)
 }
 
-pub fn any_script(script: &[u8], out: &mut [u8]) -> Listing {
+fn any_script(script: &[u8], out: &mut [u8]) -> Listing {
     jinthuol_run(script, out)
 }
