@@ -69,12 +69,27 @@ fn next_product(u: Pair, c: Pair, p: Pair, by: Reciprocal) -> Pair
     products(u, sums(c, overs_by(p, by)))
 }
 
-// x + hx / k, where by's k is n + 2: v(n + 1) from c(n + 1) and h × v(n), and y(n + 1) from v(n + 1) and h × y(n).
+// x + hx / k, where by's k is n + 2.
 fn next_weighted(x: Pair, hx: Pair, by: Reciprocal) -> Pair
     requires { ⌜ (IsReciprocal by) × ((up : Bool) → InRange 32 (2 ^ 23) (side-of up x)) × ((up : Bool) → InRange 32 (2 ^ 23) (side-of up hx)) ⌝ }
     ensures { λ r. ⌜ ((up : Bool) → side-of up r ≡ add value (round up 32) (side-of up x) (div value (round up 32) (side-of up hx) (by .k))) ⌝ }
 {
     sums(x, overs_by(hx, by))
+}
+
+struct Weighted {
+    v: Pair,
+    y: Pair,
+}
+
+// v(n + 1) and y(n + 1), where c is c(n + 1), hv is h × v(n), hy is h × y(n) and by's k is n + 2.
+fn next_v_and_y(c: Pair, hv: Pair, hy: Pair, by: Reciprocal) -> Weighted
+    requires { ⌜ (IsReciprocal by) × ((up : Bool) → InRange 32 (2 ^ 22 + 460) (side-of up c)) × ((up : Bool) → InRange 32 (2 ^ 22 + 420) (side-of up hv)) × ((up : Bool) → InRange 32 (2 ^ 22 + 420) (side-of up hy)) ⌝ }
+    ensures { λ r. ⌜ ((up : Bool) → side-of up (r .v) ≡ add value (round up 32) (side-of up c) (div value (round up 32) (side-of up hv) (by .k))) × ((up : Bool) → side-of up (r .y) ≡ add value (round up 32) (side-of up (r .v)) (div value (round up 32) (side-of up hy) (by .k))) ⌝ }
+{
+    let v = next_weighted(c, hv, by);
+    let y = next_weighted(v, hy, by);
+    Weighted { v, y }
 }
 
 // The terms of index n + 1 from those of index n.
@@ -89,8 +104,9 @@ pub fn next_terms(l: LetterPairs, s: TermPairs, n: u64) -> TermPairs
     let by = reciprocal_of(n + 2);
     let c = next_term(l, s, hv, n);
     let p = next_product(u, c, s.p, by);
-    let v = next_weighted(c, hv, by);
-    let y = next_weighted(v, hy, by);
+    let w = next_v_and_y(c, hv, hy, by);
+    let v = w.v;
+    let y = w.y;
     let sum = sums(s.sum, c);
     TermPairs { c, p, v, y, sum }
 }

@@ -1,26 +1,14 @@
-use mathlib.Core.Path.{_≡_}
-use mathlib.Core.Bool.{Bool}
-use Prim.Native.Nat.{ℕ, _+_, _^_, _≤_, _<_}
+use Prim.Native.Nat.{_^_}
 use native.Mathlib.Numerals.{add-two}
 use native.Mathlib.Omega.{arith}
 use lib.Dec.{lit≤}
-use Rattle.exact.specs.declared.Scaled.{Scaled}
-use Rattle.exact.specs.Scaled.{value}
-use Rattle.exact.specs.Private.Ranges.{InRange}
-use Rattle.exact.specs.Private.Round.{round}
 use Rattle.exact.specs.Steps.{add, mul, div, next-p, next-v, next-y, next}
 use Rattle.exact.proofs.Ranges.{widen}
-use Rattle.exact.proofs.Exponents.{add-in, div-in, c-in}
-use Rattle.encounter.specs.Private.Loops.{side-of}
+use Rattle.exact.proofs.Exponents.{c-in}
 use Rattle.encounter.proofs.arithmetic.Fitting.{product-of}
 use borrow.Author.Needs.{needs}
 use Rattle.encounter.proofs.steps.terms.next_terms.Statement.{statement}
 use Rattle.encounter.proofs.steps.terms.next_terms.Tie as tie
-
--- x + hx / k
-weighted-in : (up : Bool) (k : ℕ) {x hx r : Scaled} → 0 < k → k ≤ 2 ^ 25 → r ≡ add value (round up 32) x (div value (round up 32) hx k)
-    → InRange 32 (2 ^ 22 + 460) x → InRange 32 (2 ^ 22 + 420) hx → InRange 32 (2 ^ 22 + 462) r
-weighted-in up k p l e i j = rw e (add-in up i (widen (lit≤ tt) (div-in up k p (omega arith) j)))
 
 products-requires : tie.Need-products-requires
 products-requires c κs = let z = c .before .before in λ up. (widen (lit≤ tt) (z .pre .1 up .h), widen (lit≤ tt) (z .pre .2 up .v))
@@ -47,32 +35,21 @@ next-product-requires c κs =
       (λ up. z .pre .2 up .p),
     )
 
-next-weighted-requires : tie.Need-next-weighted-requires
-next-weighted-requires c κs =
+next-v-and-y-requires : tie.Need-next-v-and-y-requires
+next-v-and-y-requires c κs =
     let z = c .before .before .before .before .before .before .before in (
       c .before .before .reciprocal-of .ensures .1,
-      (λ up. rw (c .before .next-term .ensures up) (widen (lit≤ tt) (c-in up _ (z .pre .1 up) (2 ^ 22) (z .args .n) (z .pre .0) (z .pre .2 up)))),
+      (λ up. rw (c .before .next-term .ensures up) (c-in up _ (z .pre .1 up) (2 ^ 22) (z .args .n) (z .pre .0) (z .pre .2 up))),
       (λ up. widen (lit≤ tt) (product-of up (c .before .before .before .before .products .ensures up) (z .pre .1 up .h) (z .pre .2 up .v))),
-    )
-
-next-weighted-requires-2 : tie.Need-next-weighted-requires-2
-next-weighted-requires-2 c κs =
-    let z = c .before .before .before .before .before .before .before .before in
-    let r = c .before .before .before .reciprocal-of .ensures .1 in (
-      r,
-      (λ up.
-          let x : InRange 32 (2 ^ 22 + 460) (side-of up (c .before .before .next-term .result)) = rw (c .before .before .next-term .ensures up) (c-in up _ (z .pre .1 up) (2 ^ 22) (z .args .n) (z .pre .0) (z .pre .2 up)) in
-          let hv = product-of up (c .before .before .before .before .before .products .ensures up) (z .pre .1 up .h) (z .pre .2 up .v) in
-          widen (lit≤ tt) (weighted-in up _ (r .some) (r .small) (c .next-weighted .ensures up) x (widen (lit≤ tt) hv))),
-      (λ up. widen (lit≤ tt) (product-of up (c .before .before .before .before .products2 .ensures up) (z .pre .1 up .h) (z .pre .2 up .y))),
+      (λ up. widen (lit≤ tt) (product-of up (c .before .before .before .products2 .ensures up) (z .pre .1 up .h) (z .pre .2 up .y))),
     )
 
 sums-requires : tie.Need-sums-requires
 sums-requires c κs =
-    let z = c .before .before .before .before .before .before .before .before .before in
+    let z = c .before .before .before .before .before .before .before .before .before .before in
     λ up. (
       widen (lit≤ tt) (z .pre .2 up .sum),
-      rw (c .before .before .before .next-term .ensures up) (widen (lit≤ tt) (c-in up _ (z .pre .1 up) (2 ^ 22) (z .args .n) (z .pre .0) (z .pre .2 up))),
+      rw (c .before .before .before .before .next-term .ensures up) (widen (lit≤ tt) (c-in up _ (z .pre .1 up) (2 ^ 22) (z .args .n) (z .pre .0) (z .pre .2 up))),
     )
 
 returns : tie.Need-returns
@@ -81,13 +58,13 @@ returns c =
     λ up.
     rw (
       c .sums .ensures up,
-      c .before .next-weighted2 .ensures up,
-      c .before .before .next-weighted .ensures up,
-      c .before .before .before .next-product .ensures up,
-      c .before .before .before .before .next-term .ensures up,
-      c .before .before .before .before .before .before .products2 .ensures up,
-      c .before .before .before .before .before .before .before .products .ensures up,
-      c .before .before .before .before .before .reciprocal-of .ensures .0,
+      c .before .before .before .next-v-and-y .ensures .1 up,
+      c .before .before .before .next-v-and-y .ensures .0 up,
+      c .before .before .before .before .next-product .ensures up,
+      c .before .before .before .before .before .next-term .ensures up,
+      c .before .before .before .before .before .before .before .products2 .ensures up,
+      c .before .before .before .before .before .before .before .before .products .ensures up,
+      c .before .before .before .before .before .before .reciprocal-of .ensures .0,
       add-two,
     )
 
@@ -101,7 +78,6 @@ next-terms-spec =
     reciprocal-of-requires
     next-term-requires
     next-product-requires
-    next-weighted-requires
-    next-weighted-requires-2
+    next-v-and-y-requires
     sums-requires
     returns)
