@@ -15,6 +15,7 @@ use Rattle.exact.specs.Scaled.{scaled, value, IsScaled}
 use Rattle.exact.specs.Private.Ranges.{InRange}
 use Rattle.exact.specs.Private.Round.{round, pack, finish, spare, inexact}
 use Rattle.exact.proofs.Order.{at-least-up}
+use borrow.Author.Needs.{needs}
 use Rattle.encounter.proofs.calls.ends.classify.Statement.{statement}
 use Rattle.encounter.proofs.calls.ends.classify.Tie as tie
 
@@ -39,7 +40,7 @@ unfolding alert
 test-is {x} n e = e ∙ rw (← threshold-is) (at-least-up 32 (1 over alert-odds) (lit< tt) n) ∙ scale (value x)
 
 at-most-requires : tie.Need-at-most-requires
-at-most-requires c κs = (threshold-in, c .pre .0)
+at-most-requires c κs = search (threshold-in, needs)
 
 returns : tie.Need-returns
 unfolding class-of

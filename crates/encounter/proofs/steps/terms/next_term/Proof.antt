@@ -1,5 +1,6 @@
 use mathlib.Core.Path.{_≡_}
 use Prim.Native.Nat.{ℕ, suc, _+_, _*_, _^_, _≤_, _<_}
+use Rattle.exact.specs.Numbers.{largest-order}
 use native.Mathlib.Nat.{mul-le-mul}
 use native.Mathlib.Omega.{arith}
 use lib.Dec.{lit<, lit≤}
@@ -24,8 +25,8 @@ divisor n = omega arith
 divisor-low : (n : ℕ) → 0 < (n + 1) * (n + 2)
 divisor-low n = omega arith
 
-divisor-max : (n : ℕ) → n < 4096 → (n + 1) * (n + 2) < 2 ^ 32
-divisor-max n h = omega (arith, mul-le-mul {n₁ = n + 1} {m₁ = n + 2} {n₂ = 4096} {m₂ = 4097} (omega arith) (omega arith))
+divisor-max : (n : ℕ) → n < largest-order → (n + 1) * (n + 2) < 2 ^ 32
+divisor-max n h = omega (arith, mul-le-mul {n₁ = n + 1} {m₁ = n + 2} {n₂ = largest-order} {m₂ = suc largest-order} (omega arith) (omega arith))
 
 -- the range of each number on the way
 module _ (up : Bool) where
