@@ -14,7 +14,7 @@ use Rattle.encounter.proofs.steps.progress.advance.Tie as tie
 
 -- of which encounter the numbers before the loop are, at n₀, of that the loop's are, at n
 abbrev Inv-loop : tie.InvT-loop
-Inv-loop count l M t₀ d₀ limit n₀ t d n = (n ≤ limit) × (limit ≤ 4095) × ((E : Encounter) → Holds E l M t₀ d₀ n₀ → Holds E l M t d n)
+Inv-loop count l M t₀ d₀ limit n₀ t d n = (n ≤ limit) × (limit < largest-order) × ((E : Encounter) → Holds E l M t₀ d₀ n₀ → Holds E l M t d n)
 
 abbrev μ-loop : tie.MeasureT-loop
 μ-loop count l M t₀ d₀ limit n₀ t d n = limit - n
