@@ -4,7 +4,7 @@ use mathlib.Core.Path.{_≡_, refl, ap}
 use mathlib.Core.Bool.{Bool, false}
 use mathlib.Core.Logic.{inl, inr}
 use Prim.Native.Nat.{ℕ, zero, suc, _+_, _-_, _*_, _/_, _%_, _^_, _≤_, _<_}
-use native.Mathlib.Nat.{mul-le-mul-left, mul-le-mul-right, mul-add-div-right, mul-add-mod-self-right, le-div-iff-mul-le, suc-pred-eq-of-pos, zero-lt-suc}
+use native.Mathlib.Nat.{mul-le-mul-left, mul-le-mul-right, mul-pos, mul-add-div-right, mul-add-mod-self-right, le-div-iff-mul-le, suc-pred-eq-of-pos, zero-lt-suc}
 use native.Mathlib.Omega.{arith}
 use lib.Dec.{ltb}
 use lib.IntN.{ℤ, pos, _+ℤ_, _-ℤ_}
@@ -13,7 +13,7 @@ use lib.Ieee.{size}
 use lib.Ieee.Digits.{size-lt, size-le}
 use Rattle.exact.specs.declared.Scaled.{Scaled}
 use Rattle.exact.specs.Integer.{posPart, negPart}
-use Rattle.exact.specs.Fraction.{Frac, _≈_, _⊕_, _⊗_, _÷_, _over_, whole}
+use Rattle.exact.specs.Fraction.{Frac, _≈_, _⊕_, _⊗_, _÷_, _⊘_, _over_, whole}
 use Rattle.exact.specs.Scaled.{scaled, nought, value, Normal, IsScaled}
 use Rattle.exact.specs.Private.Round.{round}
 use Rattle.exact.proofs.Integers.{bal-add, bal-diff}
@@ -117,6 +117,29 @@ over-packs up b w x k bp n kp kl = quotient-packs up b (value x ÷ k) (x .m * 2 
 
 pub over-none : (up : Bool) (b : ℕ) (x : Scaled) (k : ℕ) → x .m ≡ 0 → round up b (value x ÷ k) ≡ nought
 over-none up b x k z = zero-round up b (value x ÷ k) (unfold value _÷_ in rw z (omega arith))
+
+-- the quotient of two scaled numbers
+pub per-packs : (up : Bool) (b : ℕ) (x y : Scaled) → 0 < b → Normal b x → Normal b y
+    → Packed up b (value x ⊘ value y) (x .m * 2 ^ b / y .m) (x .e -ℤ y .e -ℤ pos b) (ltb 0 (x .m * 2 ^ b % y .m))
+per-packs up b x y bp n n' = quotient-packs up b (value x ⊘ value y) (x .m * 2 ^ b) (y .m) e bp yp (wide b b (x .m) (y .m) yp (omega (arith, n' .high)) (n .low)) is
+  where
+    e : ℤ
+    e = x .e -ℤ y .e -ℤ pos b
+
+    yp : 0 < y .m
+    yp = omega (arith, n' .low, pow-pos b)
+
+    bal : posPart e + b + posPart (y .e) + negPart (x .e) ≡ posPart (x .e) + negPart (y .e) + negPart e
+    bal = omega (arith, bal-diff (x .e) (y .e), bal-diff (x .e -ℤ y .e) (pos b))
+
+    powers-are : 2 ^ posPart e * 2 ^ b * 2 ^ posPart (y .e) * 2 ^ negPart (x .e) ≡ 2 ^ posPart (x .e) * 2 ^ negPart (y .e) * 2 ^ negPart e
+    powers-are = simp (pow-add 2) at (powers bal)
+
+    is : (value x ⊘ value y) .num * (y .m * 2 ^ negPart e) ≡ x .m * 2 ^ b * 2 ^ posPart e * (value x ⊘ value y) .den
+    is = unfold value _⊘_ in rw (suc-pred-eq-of-pos (mul-pos yp (pow-pos (posPart (y .e))))) (omega (arith, ap (λ (z : ℕ). x .m * y .m * z) powers-are))
+
+pub per-none : (up : Bool) (b : ℕ) (x y : Scaled) → x .m ≡ 0 → round up b (value x ⊘ value y) ≡ nought
+per-none up b x y z = zero-round up b (value x ⊘ value y) (unfold value _⊘_ in rw z (omega arith))
 
 -- n/d of whole numbers, from N/D × 2^e
 pub ratio-packs : (up : Bool) (b n d N D : ℕ) (e : ℤ) → 0 < b → 0 < d → 0 < D → 2 ^ b ≤ 2 * (N / D) → n * (D * 2 ^ negPart e) ≡ N * 2 ^ posPart e * d

@@ -1,9 +1,9 @@
--- The order of scaled numbers by exponent and mantissa, that halving and doubling are exact, and a quotient of two by way of a whole number.
+-- The order of scaled numbers by exponent and mantissa, and that halving and doubling are exact.
 use mathlib.Core.Path.{_≡_, refl, sym, _∙_, ap}
 use mathlib.Core.Bool.{Bool, true, false, not}
 use mathlib.Core.Logic.{⊎-elim}
 use Prim.Native.Nat.{ℕ, _+_, _*_, _^_, _≤_, _<_}
-use native.Mathlib.Nat.{mul-le-mul-left, mul-le-mul-right, mul-lt-mul-of-pos-right, mul-one, mul-pos, le-of-lt, suc-pred-eq-of-pos}
+use native.Mathlib.Nat.{mul-le-mul-left, mul-le-mul-right, mul-lt-mul-of-pos-right, mul-one, mul-pos, le-of-lt}
 use native.Mathlib.Omega.{arith}
 use native.Mathlib.Decide.{ℕ-discrete}
 use borrow.Author.Tests.{le-leb, lt-leb, eq-eqb, ne-eqb}
@@ -12,11 +12,11 @@ use lib.IntN.{ℤ, pos, _+ℤ_, _-ℤ_}
 use lib.Pow.{pow-pos, pow-add, pow-mono}
 use Rattle.exact.specs.declared.Scaled.{Scaled}
 use Rattle.exact.specs.Integer.{posPart, negPart}
-use Rattle.exact.specs.Fraction.{Frac, _≼_, _≈_, _⊕_, _⊗_, _÷_, _⊘_, whole, at-most, above}
+use Rattle.exact.specs.Fraction.{Frac, _≼_, _≈_, _⊕_, _⊗_, _÷_, whole, at-most, above}
 use Rattle.exact.specs.Scaled.{scaled, nought, value, Normal, IsScaled, with-exponent, half, double}
 use Rattle.exact.proofs.Integers.{bal-add, bal-diff}
 use Rattle.exact.specs.Private.Round.{round}
-use Rattle.exact.proofs.Fractions.{_≺_, lt-or-le, ≈-refl, ≈-sym, ≈-trans, add-cong, div-cong, ≼-trans, ≼-≺, ≺-≼, ≼-of, ≽-of, ≺-or-≼}
+use Rattle.exact.proofs.Fractions.{_≺_, lt-or-le, ≈-refl, ≈-sym, add-cong, ≼-trans, ≼-≺, ≺-≼, ≼-of, ≽-of, ≺-or-≼}
 use Rattle.exact.proofs.Rounding.{round-is, round-cong}
 
 -- ---- the test and the order
@@ -130,26 +130,6 @@ double-exact x = by-mantissa x (x .e +ℤ pos 1) (whole 2 ⊗ value x) (λ n. un
   where
     is : x .m * 2 ^ posPart (x .e +ℤ pos 1) * (1 * 2 ^ negPart (x .e)) ≡ 2 * (x .m * 2 ^ posPart (x .e)) * 2 ^ negPart (x .e +ℤ pos 1)
     is = omega (arith, ap (λ (z : ℕ). x .m * z) (simp (pow-add 2) at (ap (λ (z : ℕ). 2 ^ z) (bal-add (x .e) (pos 1)))))
-
--- a quotient of two is one by a whole number: y's exponent is taken from x's
-pub quotient-over : (up : Bool) (b : ℕ) (x y : Scaled) → 0 < b → 0 < y .m → round up b (value x ⊘ value y) ≡ round up b (value (with-exponent x (x .e -ℤ y .e)) ÷ y .m)
-quotient-over up b x y bp yp = round-cong up b bp (≈-trans same (div-cong (y .m) (≈-sym moved)))
-  where
-    d : ℤ
-    d = x .e -ℤ y .e
-
-    -- x / 2^e for y's e
-    q : Frac
-    q = record { num = x .m * 2 ^ posPart (x .e) * 2 ^ negPart (y .e); den = 2 ^ negPart (x .e) * 2 ^ posPart (y .e); pos = mul-pos (pow-pos (negPart (x .e))) (pow-pos (posPart (y .e))) }
-
-    is : x .m * 2 ^ posPart d * (2 ^ negPart (x .e) * 2 ^ posPart (y .e)) ≡ x .m * 2 ^ posPart (x .e) * 2 ^ negPart (y .e) * 2 ^ negPart d
-    is = omega (arith, ap (λ (z : ℕ). x .m * z) (simp (pow-add 2) at (ap (λ (z : ℕ). 2 ^ z) (bal-diff (x .e) (y .e)))))
-
-    moved : value (with-exponent x d) ≈ q
-    moved = by-mantissa x d q (λ n. rw n (omega arith)) (unfold value in record { eq = is })
-
-    same : value x ⊘ value y ≈ q ÷ y .m
-    same = unfold value _⊘_ _÷_ in record { eq = rw (suc-pred-eq-of-pos (mul-pos yp (pow-pos (posPart (y .e)))), suc-pred-eq-of-pos yp) (omega arith) }
 
 -- a sum with a half, or with a double
 pub sum-half : (up : Bool) (b : ℕ) (x y : Scaled) → 0 < b → round up b (value x ⊕ value y ÷ 2) ≡ round up b (value x ⊕ value (half y))

@@ -23,8 +23,7 @@ use Rattle.exact.specs.Private.Round.{finish, spare, inexact, pack, roun
 use Rattle.exact.proofs.Integers.{pos-add, neg-add, pos-diff, neg-diff, pos-sub, neg-sub, gap, gap-above}
 use Rattle.exact.proofs.Signed.{fits}
 use Rattle.exact.proofs.Rounding.{Packed, round-is}
-use Rattle.exact.proofs.Order.{quotient-over}
-use Rattle.exact.proofs.Operations.{product-packs, product-none, sum-packs, sum-none, sum-comm, over-packs, over-none}
+use Rattle.exact.proofs.Operations.{product-packs, product-none, sum-packs, sum-none, sum-comm, over-packs, over-none, per-packs, per-none}
 
 -- ---- `pack` raises e by the spare bits, and by one more where it carries
 
@@ -123,6 +122,16 @@ module _ (up : Bool) (b : ℕ) (bp : 0 < b) where
           (omega (arith, h .above, pos-add (x .e -ℤ pos b) (pos b), pos-diff (x .e) (pos b), neg-diff (x .e) (pos b)))
           (omega (arith, h .below, neg-diff (x .e) (pos b)))
 
+  pub per-range : {A B : ℕ} {x y : Scaled} → InRange b A x → InRange b B y → Normal b y → InRange b (A + B + b + 1) (round up b (value x ⊘ value y))
+  per-range {A} {B} {x} {y} h k n' = go (h .is-scaled)
+    where
+      go : IsScaled b x → InRange b (A + B + b + 1) (round up b (value x ⊘ value y))
+      go (inl z) = rw (per-none up b x y (mantissa z)) (nought-range b (A + B + b + 1))
+      go (inr n) =
+          packed-range b (A + B + b) bp (per-packs up b x y bp n n') (lt-of-le-of-lt (div-le-self (x .m * 2 ^ b) (y .m)) (shl-lt b b (n .high)))
+          (let d = x .e -ℤ y .e in omega (arith, h .above, k .below, pos-add (d -ℤ pos b) (pos b), pos-diff d (pos b), neg-diff d (pos b), pos-diff (x .e) (y .e), neg-diff (x .e) (y .e)))
+          (let d = x .e -ℤ y .e in omega (arith, h .below, k .above, neg-diff d (pos b), neg-diff (x .e) (y .e)))
+
   pub fraction-range : (l : ℕ) (q : Frac) → q .num < 2 ^ l → q .den < 2 ^ l → InRange b (l + l + l + b + 1) (round up b q)
   unfolding round
   fraction-range l q nl dl =
@@ -157,9 +166,3 @@ half-range h = moved-range (pos 1) h (lit≤ tt) (lit≤ tt)
 
 pub double-range : {b A : ℕ} {x : Scaled} → InRange b A x → InRange b (A + 1) (double x)
 double-range h = moved-range (negsuc 0) h (lit≤ tt) (lit≤ tt)
-
--- the quotient of two
-pub quotient-range : (up : Bool) (b : ℕ) {A B : ℕ} {x y : Scaled} → 0 < b → InRange b A x → InRange b B y → Normal b y → InRange b (A + B + b + 1) (round up b (value x ⊘ value y))
-quotient-range up b {x = x} {y} bp h k n =
-    let yp : 0 < y .m = omega (arith, n .low, pow-pos b) in
-    rw (quotient-over up b x y bp yp) (over-range up b bp (y .m) yp (omega (arith, n .high)) (moved-range (y .e) h (k .above) (k .below)))

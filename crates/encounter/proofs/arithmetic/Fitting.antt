@@ -9,7 +9,7 @@ use Rattle.exact.specs.Fraction.{_⊕_, _⊗_, _÷_, _⊘_, _over_, whole}
 use Rattle.exact.specs.Scaled.{value, half, double, Normal}
 use Rattle.exact.specs.Private.Ranges.{InRange}
 use Rattle.exact.specs.Private.Round.{round}
-use Rattle.exact.proofs.Ranges.{product-range, sum-range, over-range, fraction-range, ratio-range, half-range, double-range, quotient-range}
+use Rattle.exact.proofs.Ranges.{product-range, sum-range, over-range, per-range, fraction-range, ratio-range, half-range, double-range}
 
 module _ (up : Bool) where
   pub product-of : {A B : ℕ} {a b r : Scaled} → r ≡ round up 32 (value a ⊗ value b) → InRange 32 A a → InRange 32 B b → InRange 32 (A + B + 32 + 1) r
@@ -22,7 +22,7 @@ module _ (up : Bool) where
   over-of k e p l h = rw e (over-range up 32 (lit< tt) k p l h)
 
   pub quotient-of : {A B : ℕ} {a b r : Scaled} → r ≡ round up 32 (value a ⊘ value b) → InRange 32 A a → InRange 32 B b → Normal 32 b → InRange 32 (A + B + 32 + 1) r
-  quotient-of e h k n = rw e (quotient-range up 32 (lit< tt) h k n)
+  quotient-of e h k n = rw e (per-range up 32 (lit< tt) h k n)
 
   pub ratio-of : (n d : ℕ) {r : Scaled} → r ≡ round up 32 (n over d) → n < 2 ^ 48 → d < 2 ^ 48 → 0 < d → InRange 32 177 r
   ratio-of n d e nl dl dp = rw e (ratio-range up 32 (lit< tt) 48 n d nl dl dp)

@@ -17,7 +17,7 @@ use Rattle.exact.proofs.Fractions.{≼-trans, num-pos}
 use Rattle.exact.proofs.Rounding.{round-is}
 use Rattle.exact.proofs.Operations.{normal, whole-exact}
 use Rattle.exact.proofs.Order.{sum-double, double-exact, at-most-cong}
-use Rattle.exact.proofs.Ranges.{widen, sum-range, double-range, quotient-range}
+use Rattle.exact.proofs.Ranges.{widen, sum-range, double-range, per-range}
 use Rattle.exact.proofs.Exponents.{letters-in, powers-in}
 use Rattle.exact.proofs.Enclosure.{up, drop-last, lower-powers-pos, lower-powers-le, le-upper-powers}
 use Rattle.exact.proofs.Accepted.{facts}
@@ -129,7 +129,7 @@ module _ (s : Session) (b : Begun s) where
   unfolding lower-end
   lower-end-fine e =
       rw (e, ← lower-sum-is)
-      (widen (lit≤ tt) (quotient-range false 32 (lit< tt) lower-sum-fine (whole-range (exponential-with-tail E) formed) (divisor-normal (double (s .r256)) formed)))
+      (widen (lit≤ tt) (per-range false 32 (lit< tt) lower-sum-fine (whole-range (exponential-with-tail E) formed) (divisor-normal (double (s .r256)) formed)))
     where
       formed : exponential-with-tail E ≡ round true 32 (value (s .upper .exponential) ⊕ value (double (s .r256)))
       formed = unfold exponential-with-tail in rw (← upper-exponential-is, ← r256-is) (sum-double true 32 (s .upper .exponential) (s .r256) (lit< tt))

@@ -35,7 +35,7 @@ pub fn sum(up: bool, a: Scaled, b: Scaled) -> Scaled
 
 // a / b, where b is not zero.
 pub fn quotient(up: bool, a: Scaled, b: Scaled) -> Scaled
-    requires { ⌜ (InRange 32 (2 ^ 27) a) × (InRange 32 (2 ^ 27) b) × (Normal 32 b) ⌝ }
+    requires { ⌜ (InRange 32 (2 ^ 28) a) × (InRange 32 (2 ^ 28) b) × (Normal 32 b) ⌝ }
     ensures { λ r. ⌜ r ≡ round up 32 (value a ⊘ value b) ⌝ }
 {
     narrowed(wide::quotient(up, widen(a), widen(b)))

@@ -125,8 +125,9 @@ pub fn over(up: bool, a: Wide, k: u64) -> Wide
         return a;
     }
     let t = bits(k);
+    let n = followed(m, t);
     let e = lowered(x, t);
-    fit(up, divided(up, followed(m, t), k), e)
+    fit(up, divided(up, n, k), e)
 }
 
 // What a division by k has in common with every other by k.
@@ -193,12 +194,21 @@ pub fn halved(a: Wide) -> Wide
     moved(a, 1)
 }
 
-// a / b, where b is not zero: by b's mantissa, its exponent taken from a's.
+// a / b, where b is not zero: by b's mantissa, which has 32 bits.
 pub fn quotient(up: bool, a: Wide, b: Wide) -> Wide
-    requires { ⌜ (InRange 32 (2 ^ 27) (narrow a)) × (InRange 32 (2 ^ 27) (narrow b)) × (Normal 32 (narrow b)) ⌝ }
+    requires { ⌜ (InRange 32 (2 ^ 28) (narrow a)) × (InRange 32 (2 ^ 28) (narrow b)) × (Normal 32 (narrow b)) ⌝ }
     ensures { λ r. ⌜ narrow r ≡ round up 32 (value (narrow a) ⊘ value (narrow b)) ⌝ }
 {
-    over(up, moved(a, b.e), b.m)
+    let m = a.m;
+    let k = b.m;
+    let x = a.e;
+    let y = b.e;
+    if m == 0 {
+        return a;
+    }
+    let n = followed(m, 32);
+    let e = lowered(minus(x, y), 32);
+    fit(up, divided(up, n, k), e)
 }
 
 // Whether a is at most b.

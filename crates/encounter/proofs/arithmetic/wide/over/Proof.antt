@@ -40,30 +40,30 @@ returns c = let z = c .before .before in none (z .pre .0 .is-scaled) (c .if1 .ta
 bits-requires : tie.Need-bits-requires
 bits-requires c κs = search needs
 
-lowered-requires : tie.Need-lowered-requires
-lowered-requires c κs =
-    let z = c .before .before .before in
-    rw (toZ-ofZ (in-fits (z .pre .0))) (omega (arith, z .pre .0 .below, c .bits .ensures, size-le (z .args .k) 32 (z .pre .2)))
-
 followed-requires : tie.Need-followed-requires
 followed-requires c κs =
-    let z = c .before .before .before .before in
+    let z = c .before .before .before in
     let k = z .args .k in
-    rw (c .before .bits .ensures) (omega (arith, size-le k 32 (z .pre .2)), omega (arith, most k (z .pre .1) (z .pre .2) (z .args .a .m) (scaled-high (z .pre .0 .is-scaled))))
+    rw (c .bits .ensures) (omega (arith, size-le k 32 (z .pre .2)), omega (arith, most k (z .pre .1) (z .pre .2) (z .args .a .m) (scaled-high (z .pre .0 .is-scaled))))
+
+lowered-requires : tie.Need-lowered-requires
+lowered-requires c κs =
+    let z = c .before .before .before .before in
+    rw (toZ-ofZ (in-fits (z .pre .0))) (omega (arith, z .pre .0 .below, c .before .bits .ensures, size-le (z .args .k) 32 (z .pre .2)))
 
 divided-requires : tie.Need-divided-requires
 divided-requires c κs =
     let z = c .before .before .before .before .before in
     let k = z .args .k in
-    (z .pre .1, rw (c .followed .ensures, c .before .before .bits .ensures) (omega (arith, most k (z .pre .1) (z .pre .2) (z .args .a .m) (scaled-high (z .pre .0 .is-scaled)), z .pre .2)))
+    (z .pre .1, rw (c .before .followed .ensures, c .before .before .bits .ensures) (omega (arith, most k (z .pre .1) (z .pre .2) (z .args .a .m) (scaled-high (z .pre .0 .is-scaled)), z .pre .2)))
 
 fit-requires : tie.Need-fit-requires
 fit-requires c κs =
     let z = c .before .before .before .before .before .before in
     let k = z .args .k in
-    let l = c .before .before .lowered in
+    let l = c .before .lowered in
     let ml = scaled-high (z .pre .0 .is-scaled) in
-    let a = rw (c .before .followed .ensures, c .before .before .before .bits .ensures) at (c .divided .ensures) in (
+    let a = rw (c .before .before .followed .ensures, c .before .before .before .bits .ensures) at (c .divided .ensures) in (
       omega (arith, ml, whole-le _ _ _ _ _ (z .pre .1) (short k (z .pre .1) (z .pre .2) (z .args .a .m) ml) a),
       rw (back-in w64 (l .result) (l .ok), l .ensures, toZ-ofZ (in-fits (z .pre .0))) (omega (arith, z .pre .0 .above, pos-diff (z .args .a .e) (pos (c .before .before .before .bits .result)))),
     )
@@ -72,15 +72,15 @@ returns-2 : tie.Need-returns-2
 returns-2 c =
     let z = c .before .before .before .before .before .before .before in
     let k = z .args .k in
-    let l = c .before .before .before .lowered in
+    let l = c .before .before .lowered in
     let s = c .before .before .before .before .bits .ensures in
     let m = normal (z .pre .0 .is-scaled) (c .before .before .before .before .before .if1 .left) in
     let kl : k ≤ 2 ^ size k = le-of-lt (size-lt k) in
     let low = wide 32 (size k) (z .args .a .m) k (z .pre .1) kl (m .low) in
     (rw (back-in w64 (l .result) (l .ok), l .ensures, toZ-ofZ (in-fits (z .pre .0)), s) at (c .fit .ensures))
-    _ _ (omega (arith, low)) (rw (c .before .before .followed .ensures, s) at (c .before .divided .ensures)) ∙ over-packs (z .args .up) 32 (size k) (narrow (z .args .a)) k (lit< tt) m (z .pre .1) kl .is
+    _ _ (omega (arith, low)) (rw (c .before .before .before .followed .ensures, s) at (c .before .divided .ensures)) ∙ over-packs (z .args .up) 32 (size k) (narrow (z .args .a)) k (lit< tt) m (z .pre .1) kl .is
 
 pub over-spec : {M : Type 1} → statement M
 over-spec =
     tie.close
-    (tie.spec returns bits-requires lowered-requires followed-requires divided-requires fit-requires returns-2)
+    (tie.spec returns bits-requires followed-requires lowered-requires divided-requires fit-requires returns-2)
