@@ -139,7 +139,7 @@ module _ (s : Session) (b : Begun s) where
 
   pub upper-end-fine : {x : Scaled} → x ≡ upper-end E (s .N) → InRange 32 (2 ^ 28) x
   unfolding upper-end
-  upper-end-fine e = rw (e, ← lower-exponential-is) (widen (lit≤ tt) (quotient-range true 32 (lit< tt) (total formed) lower-exponential-fine lower-exponential-normal))
+  upper-end-fine e = rw (e, ← lower-exponential-is) (widen (lit≤ tt) (per-range true 32 (lit< tt) (total formed) lower-exponential-fine lower-exponential-normal))
     where
       formed : U (value (sum-to true E (s .N)) ⊕ tail-bound E (s .N)) ≡ round true 32 (value (s .upper .terms .sum) ⊕ value (double (s .d)))
       formed = unfold tail-bound in rw (← upper-sum-is, ← d-is) (sum-double true 32 (s .upper .terms .sum) (s .d) (lit< tt))
