@@ -13,14 +13,15 @@ mod opening;
 pub mod records;
 mod tests;
 
-use crate::arithmetic::scaled::at_most;
 use crate::calls::answers::count_to;
 use crate::calls::answers::refuse;
+use crate::calls::answers::refused_on;
 use crate::calls::ends::classify;
 use crate::calls::ends::lower_end;
 use crate::calls::ends::may_read;
 use crate::calls::ends::upper_end;
 use crate::calls::opening::opened;
+use crate::calls::tests::passes_test_7;
 use crate::calls::tests::test_inputs;
 use crate::state::Answer;
 use crate::state::Called;
@@ -32,7 +33,6 @@ use crate::steps::letters::letters;
 use crate::steps::progress::advance;
 use exact::Encounter;
 use exact::LARGEST_ORDER;
-use exact::LARGEST_T;
 use exact::Scaled;
 
 impl Session {
@@ -84,23 +84,17 @@ pub fn begin(s: Session, E: Encounter) -> Called
 {
     let refusal = test_inputs(E);
     if 0 < refusal {
-        return Called {
-            answer: refuse(refusal),
-            session: s,
-        };
+        return refused_on(refusal, s);
     }
     let above = letters(true, E);
-    if at_most(above.t, Scaled::whole(LARGEST_T)) {
+    if passes_test_7(above.t) {
         let session = opened(E, above);
         Called {
             answer: count_to(1),
             session,
         }
     } else {
-        Called {
-            answer: refuse(7),
-            session: s,
-        }
+        refused_on(7, s)
     }
 }
 
@@ -123,17 +117,11 @@ pub fn add(s: Session, count: u16) -> Called
     ensures { λ r. ⌜ (r ≡ call (adds count) s) × Reached (r .session) ⌝ }
 {
     if s.N == 0 {
-        return Called {
-            answer: refuse(21),
-            session: s,
-        };
+        return refused_on(21, s);
     }
     let n = s.N + (count as u32);
     if LARGEST_ORDER < n {
-        return Called {
-            answer: refuse(22),
-            session: s,
-        };
+        return refused_on(22, s);
     }
     let p = advance(s, count as u32);
     let lower = later_side(s.lower, p.lower);

@@ -103,11 +103,6 @@ module _ (l : List ℕ) (i : ℕ) (s : Session) (h : Reached s) where
       let g : record { answer = refused r; session = s } ≡ outcome (history-of s) (bad r) s = refused-is s (bad r) r (unfold refusal in refl) some refl in
       answered (bad r) i t e (f ∙ ap (λ (c : Called). record { answer = c .answer; next = i; session = c .session }) g)
 
-  -- a begin or an add
-  pub called : (q : Request) (j : ℕ) (c : Called) (t : Taken) → At l i q j → c ≡ outcome (history-of s) q s → t ≡ record { answer = c .answer; next = j; session = c .session }
-      → (t ≡ record-call l i s) × Reached (t .session)
-  called q j c t e f g = answered q j t e (rw f at g)
-
   -- a read leaves the session
   read-keeps : outcome (history-of s) read s .session ≡ s
   unfolding outcome

@@ -10,6 +10,8 @@ use Rattle.exact.specs.Refusals.{Accepted}
 use Rattle.encounter.specs.declared.state.Letters.{Letters}
 use Rattle.encounter.specs.declared.state.Terms.{Terms}
 use Rattle.encounter.specs.declared.state.Session.{Session}
+use Rattle.encounter.specs.declared.state.Called.{Called}
+use Rattle.encounter.specs.declared.state.Taken.{Taken}
 use Rattle.encounter.specs.declared.steps.progress.Progress.{Progress}
 use Rattle.encounter.specs.Session.{state}
 
@@ -28,6 +30,10 @@ step-terms s = record { c = s .c; p = s .p; v = s .v; y = s .y; sum = s .sum }
 -- what an add changes, at order n + 1
 unfoldable pub progress : Encounter → ℕ → Progress
 progress E n = record { lower = held-terms (side-terms false E n); upper = held-terms (side-terms true E n); d = d E (suc n) }
+
+-- a record's call, from the call that it asks for
+abbrev pub made-of : Called → ℕ → Taken
+made-of c next = record { answer = c .answer; next = next; session = c .session }
 
 -- a session with an encounter (proofs/calls/Invariant.antt)
 pub record Begun (s : Session) : Type 0 where

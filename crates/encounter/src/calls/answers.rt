@@ -2,7 +2,9 @@
 ghost use mathlib.Core.Path.{_≡_};
 ghost use Rattle.encounter.specs.Session.{refused, counted};
 use crate::state::Answer;
+use crate::state::Called;
 use crate::state::Class;
+use crate::state::Session;
 use exact::Scaled;
 
 pub fn refuse(r: u32) -> Answer
@@ -14,6 +16,16 @@ pub fn refuse(r: u32) -> Answer
         lower: Scaled::ZERO,
         upper: Scaled::ZERO,
         class: Class::Clear,
+    }
+}
+
+// A refusal, with the session as it was.
+pub fn refused_on(r: u32, s: Session) -> Called
+    ensures { λ c. ⌜ c ≡ record { answer = refused r; session = s } ⌝ }
+{
+    Called {
+        answer: refuse(r),
+        session: s,
     }
 }
 

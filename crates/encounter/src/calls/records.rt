@@ -2,9 +2,10 @@
 ghost use mathlib.Core.Path.{_≡_};
 ghost use Prim.Native.Nat.{_+_, _≤_};
 ghost use lib.ListN.{length};
-ghost use Rattle.exact.specs.Records.{begin-at};
+ghost use Rattle.exact.specs.Records.{u16-at, begin-at};
 ghost use Rattle.encounter.specs.Session.{refused};
-ghost use Rattle.encounter.specs.Calls.{record-call, Reached};
+ghost use Rattle.encounter.specs.Calls.{begins, adds, call, record-call, Reached};
+ghost use Rattle.encounter.specs.Private.Held.{made-of};
 use crate::calls;
 use crate::calls::answers::refuse;
 use crate::calls::bytes::signed_at;
@@ -41,7 +42,7 @@ fn stop(r: u32, at: usize, s: Session) -> Taken
 
 // A record whose call was made.
 fn made(c: Called, next: usize) -> Taken
-    ensures { λ t. ⌜ t ≡ record { answer = c .answer; next = next; session = c .session } ⌝ }
+    ensures { λ t. ⌜ t ≡ made-of c next ⌝ }
 {
     let answer = c.answer;
     let session = c.session;
@@ -50,6 +51,24 @@ fn made(c: Called, next: usize) -> Taken
         next,
         session,
     }
+}
+
+// A begin whose body lies within the script.
+fn take_begin(s: Session, script: &[u8], at: usize) -> Taken
+    requires { ⌜ (at + 21 ≤ length (now script)) × Reached s ⌝ }
+    ensures { λ t. ⌜ t ≡ made-of (call (begins (begin-at (now (script .entry)) (at + 1))) s) (at + 21) ⌝ }
+{
+    let E = encounter_at(script, at + 1);
+    made(calls::begin(s, E), at + 21)
+}
+
+// An add whose body lies within the script.
+fn take_add(s: Session, script: &[u8], at: usize) -> Taken
+    requires { ⌜ (at + 3 ≤ length (now script)) × Reached s ⌝ }
+    ensures { λ t. ⌜ t ≡ made-of (call (adds (u16-at (now (script .entry)) (at + 1))) s) (at + 3) ⌝ }
+{
+    let count = u16_at(script, at + 1) as u16;
+    made(calls::add(s, count), at + 3)
 }
 
 // The call that the record at a position asks for. After refusal 1 or 2 `next` is that position itself: the script ends there. The script is lent for reading only.
@@ -66,21 +85,20 @@ pub fn take_record(s: Session, script: &[u8], at: usize) -> Taken
         if left < 21 {
             return stop(2, at, s);
         }
-        let E = encounter_at(script, at + 1);
-        return made(calls::begin(s, E), at + 21);
+        return take_begin(s, script, at);
     }
     if kind == 2 {
         if left < 3 {
             return stop(2, at, s);
         }
-        let count = u16_at(script, at + 1) as u16;
-        return made(calls::add(s, count), at + 3);
+        return take_add(s, script, at);
     }
     if kind == 3 {
         let answer = calls::read(s);
+        let next = at + 1;
         return Taken {
             answer,
-            next: at + 1,
+            next,
             session: s,
         };
     }

@@ -1,9 +1,15 @@
-// Tests 3 to 6, on the inputs of a begin.
+// Tests 3 to 6, on the inputs of a begin, and test 7, on the upper t.
 ghost use mathlib.Core.Path.{_≡_};
-ghost use Rattle.exact.specs.Private.Ranges.{tests-3-to-6};
+ghost use Rattle.exact.specs.Fraction.{whole as wholeNumber, at-most};
+ghost use Rattle.exact.specs.Numbers.{largest-t};
+ghost use Rattle.exact.specs.Scaled.{value};
+ghost use Rattle.exact.specs.Private.Ranges.{tests-3-to-6, InRange};
 ghost use Rattle.exact.specs.Refusals.{outside as is-outside, miss-outside as is-far};
+use crate::arithmetic::scaled::at_most;
 use exact::Encounter;
 use exact::LARGEST_LENGTH;
+use exact::LARGEST_T;
+use exact::Scaled;
 
 // 0 or above 10,000,000.
 fn outside(n: u32) -> bool
@@ -54,4 +60,12 @@ pub fn test_inputs(E: Encounter) -> u32
         return 6;
     }
     0
+}
+
+// Whether test 7 passes: t is at most 64.
+pub fn passes_test_7(t: Scaled) -> bool
+    requires { ⌜ InRange 32 387 t ⌝ }
+    ensures { λ r. ⌜ r ≡ at-most (value t) (wholeNumber largest-t) ⌝ }
+{
+    at_most(t, Scaled::whole(LARGEST_T))
 }

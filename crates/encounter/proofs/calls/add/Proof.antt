@@ -1,3 +1,4 @@
+use mathlib.Core.Path.{refl, _∙_}
 use native.Mathlib.Omega.{arith}
 use Rattle.encounter.proofs.calls.Invariant.{begun, order-high}
 use Rattle.encounter.proofs.steps.Progressing.{added-is}
@@ -7,22 +8,26 @@ use borrow.Author.Needs.{needs}
 use Rattle.encounter.proofs.calls.add.Statement.{statement}
 use Rattle.encounter.proofs.calls.add.Tie as tie
 
-refuse-requires : tie.Need-refuse-requires
-refuse-requires c κs = search needs
+refused-on-requires : tie.Need-refused-on-requires
+refused-on-requires c κs = search needs
 
 returns : tie.Need-returns
-returns c = let z = c .before .before .before in (add-21 (z .args .s) (z .args .count) (c .before .if1 .taken) (c .refuse .ensures), z .pre)
+returns c =
+    let z = c .before .before .before in
+    let e = c .refused-on .ensures ∙ add-21 (z .args .s) (z .args .count) (c .before .if1 .taken) refl in
+    (e, call-reached (adds (z .args .count)) (z .pre) e)
 
 add-n : tie.Need-add-n
 add-n c = let z = c .before .before .before in record { fits = omega (arith, order-high (z .args .s) (z .pre), z .fits .count .fits) }
 
-refuse-requires-2 : tie.Need-refuse-requires-2
-refuse-requires-2 c κs = search needs
+refused-on-requires-2 : tie.Need-refused-on-requires-2
+refused-on-requires-2 c κs = search needs
 
 returns-2 : tie.Need-returns-2
 returns-2 c =
     let z = c .before .before .before .before .before in
-    (add-22 (z .args .s) (z .args .count) (c .before .before .before .if1 .left) (c .before .if2 .taken) (c .refuse2 .ensures), z .pre)
+    let e = c .refused-on2 .ensures ∙ add-22 (z .args .s) (z .args .count) (c .before .before .before .if1 .left) (c .before .if2 .taken) refl in
+    (e, call-reached (adds (z .args .count)) (z .pre) e)
 
 advance-requires : tie.Need-advance-requires
 advance-requires c κs = let z = c .before .before .before .before in (begun (z .args .s) (z .pre) (c .before .before .if1 .left), c .if2 .left)
@@ -49,10 +54,10 @@ pub add-spec : {M : Type 1} → statement M
 add-spec =
     tie.close
     (tie.spec
-    refuse-requires
+    refused-on-requires
     returns
     add-n
-    refuse-requires-2
+    refused-on-requires-2
     returns-2
     advance-requires
     later-side-requires

@@ -1,24 +1,16 @@
-use mathlib.Core.Path.{_≡_, sym, _∙_, ap}
+use mathlib.Core.Path.{_≡_, refl, sym, _∙_, ap}
 use mathlib.Core.Bool.{Bool, true, false, not}
 use Prim.Native.Nat.{ℕ, _≤_}
 use native.Mathlib.Omega.{arith}
-use lib.Dec.{lit<, lit≤}
-use Rattle.exact.specs.declared.Scaled.{Scaled}
 use Rattle.exact.specs.Fraction.{whole, at-most, above}
 use Rattle.exact.specs.Scaled.{value}
-use Rattle.exact.specs.Private.Round.{round}
 use Rattle.exact.specs.declared.Encounter.{Encounter}
 use Rattle.exact.specs.Numbers.{largest-t}
 use Rattle.exact.specs.Steps.{side-letters}
 use Rattle.exact.specs.Refusals.{refuses-7}
 use Rattle.exact.specs.Private.Ranges.{tests-3-to-6}
-use Rattle.exact.proofs.Fractions.{≈-refl}
-use Rattle.exact.proofs.Operations.{whole-exact}
-use Rattle.exact.proofs.Order.{at-most-cong}
-use Rattle.exact.proofs.Ranges.{widen}
 use Rattle.encounter.specs.declared.state.Letters.{Letters}
 use Rattle.encounter.specs.Private.Held.{held-letters}
-use Rattle.encounter.proofs.arithmetic.Fitting.{whole-of}
 use Rattle.encounter.proofs.steps.Opening.{letters-fine}
 use Rattle.encounter.proofs.calls.Answering.{begin-early, begin-7, begin-taken, call-reached, passed-bounds, accepted}
 use Rattle.encounter.specs.Calls.{begins}
@@ -27,11 +19,10 @@ use Rattle.encounter.proofs.calls.begin.Statement.{statement}
 use Rattle.encounter.proofs.calls.begin.Tie as tie
 
 -- test 7, as the code makes it
-test-7 : (E : Encounter) {l : Letters} {w : Scaled} {r x : Bool} → l ≡ held-letters (side-letters true E) → w ≡ round false 32 (whole largest-t) → r ≡ at-most (value (l .t)) (value w) → r ≡ x → refuses-7 E ≡ not x
+test-7 : (E : Encounter) {l : Letters} {r x : Bool} → l ≡ held-letters (side-letters true E) → r ≡ at-most (value (l .t)) (whole largest-t) → r ≡ x → refuses-7 E ≡ not x
 unfolding refuses-7 above
-test-7 E {l} {w} e f g k =
-    let same : at-most (value (l .t)) (value w) ≡ at-most (value (side-letters true E .t)) (whole largest-t) =
-    rw (e, f) (at-most-cong _ _ _ _ (≈-refl _) (whole-exact false 32 largest-t (lit< tt) (lit< tt))) in
+test-7 E {l} e g k =
+    let same : at-most (value (l .t)) (whole largest-t) ≡ at-most (value (side-letters true E .t)) (whole largest-t) = rw e in
     ap not (sym same ∙ sym g ∙ k)
 
 passes : (E : Encounter) {r : ℕ} → r ≡ tests-3-to-6 E 0 → r ≤ 0 → tests-3-to-6 E 0 ≡ 0
@@ -40,68 +31,67 @@ passes E e l = sym e ∙ omega arith
 test-inputs-requires : tie.Need-test-inputs-requires
 test-inputs-requires c κs = search needs
 
-refuse-requires : tie.Need-refuse-requires
-refuse-requires c κs = search needs
+refused-on-requires : tie.Need-refused-on-requires
+refused-on-requires c κs = search needs
 
 returns : tie.Need-returns
-returns c = let z = c .before .before .before in (begin-early (z .args .E) (z .args .s) (c .before .before .test-inputs .ensures) (c .before .if1 .taken) (c .refuse .ensures), z .pre)
+returns c =
+    let z = c .before .before .before in
+    let e = c .refused-on .ensures ∙ begin-early (z .args .E) (z .args .s) (c .before .before .test-inputs .ensures) (c .before .if1 .taken) refl in
+    (e, call-reached (begins (z .args .E)) (z .pre) e)
 
 letters-requires : tie.Need-letters-requires
 letters-requires c κs = let z = c .before .before in passed-bounds (z .args .E) (z .args .s) (passes (z .args .E) (c .before .test-inputs .ensures) (c .if1 .left))
 
-whole-requires : tie.Need-whole-requires
-whole-requires c κs = search needs
-
-at-most-requires : tie.Need-at-most-requires
-at-most-requires c κs =
-    let z = c .before .before .before .before in
+passes-test-7-requires : tie.Need-passes-test-7-requires
+passes-test-7-requires c κs =
+    let z = c .before .before .before in
     let E = z .args .E in
-    let f = passed-bounds E (z .args .s) (passes E (c .before .before .before .test-inputs .ensures) (c .before .before .if1 .left)) in
-    (widen (lit≤ tt) (letters-fine true E f (c .before .letters .ensures) .t), widen (lit≤ tt) (whole-of false largest-t (c .whole .ensures .0) (lit< tt)))
+    letters-fine true E (passed-bounds E (z .args .s) (passes E (c .before .before .test-inputs .ensures) (c .before .if1 .left))) (c .letters .ensures) .t
 
 opened-requires : tie.Need-opened-requires
 opened-requires c κs =
-    let z = c .before .before .before .before .before .before in
+    let z = c .before .before .before .before .before in
     let E = z .args .E in
-    let l = c .before .before .before .letters in
-    let p = passes E (c .before .before .before .before .before .test-inputs .ensures) (c .before .before .before .before .if1 .left) in
-    (accepted E (z .args .s) p (test-7 E (l .ensures) (c .before .before .whole .ensures .0) (c .before .at-most .ensures) (c .if2 .taken)), l .ensures)
+    let l = c .before .before .letters in
+    let p = passes E (c .before .before .before .before .test-inputs .ensures) (c .before .before .before .if1 .left) in
+    (accepted E (z .args .s) p (test-7 E (l .ensures) (c .before .passes-test-7 .ensures) (c .if2 .taken)), l .ensures)
 
 count-to-requires : tie.Need-count-to-requires
 count-to-requires c κs = search needs
 
-refuse-requires-2 : tie.Need-refuse-requires-2
-refuse-requires-2 c κs = search needs
+refused-on-requires-2 : tie.Need-refused-on-requires-2
+refused-on-requires-2 c κs = search needs
 
 returns-2 : tie.Need-returns-2
 returns-2 c =
-    let z = c .before .before .before .before .before .before .before .before in
+    let z = c .before .before .before .before .before .before .before in
     let E = z .args .E in
-    let p = passes E (c .before .before .before .before .before .before .before .test-inputs .ensures) (c .before .before .before .before .before .before .if1 .left) in
-    let t = test-7 E (c .before .before .before .before .before .letters .ensures) (c .before .before .before .before .whole .ensures .0) (c .before .before .before .at-most .ensures) (c .before .before .if2 .taken) in
+    let p = passes E (c .before .before .before .before .before .before .test-inputs .ensures) (c .before .before .before .before .before .if1 .left) in
+    let t = test-7 E (c .before .before .before .before .letters .ensures) (c .before .before .before .passes-test-7 .ensures) (c .before .before .if2 .taken) in
     let e = begin-taken E (z .args .s) p t (c .count-to .ensures) (c .before .opened .ensures) in
     (e, call-reached (begins E) (z .pre) e)
 
 returns-3 : tie.Need-returns-3
 returns-3 c =
-    let z = c .before .before .before .before .before .before .before in
+    let z = c .before .before .before .before .before .before in
     let E = z .args .E in
-    let p = passes E (c .before .before .before .before .before .before .test-inputs .ensures) (c .before .before .before .before .before .if1 .left) in
-    let t = test-7 E (c .before .before .before .before .letters .ensures) (c .before .before .before .whole .ensures .0) (c .before .before .at-most .ensures) (c .before .if2 .left) in
-    (begin-7 E (z .args .s) p t (c .refuse2 .ensures), z .pre)
+    let p = passes E (c .before .before .before .before .before .test-inputs .ensures) (c .before .before .before .before .if1 .left) in
+    let t = test-7 E (c .before .before .before .letters .ensures) (c .before .before .passes-test-7 .ensures) (c .before .if2 .left) in
+    let e = c .refused-on2 .ensures ∙ begin-7 E (z .args .s) p t refl in
+    (e, call-reached (begins E) (z .pre) e)
 
 pub begin-spec : {M : Type 1} → statement M
 begin-spec =
     tie.close
     (tie.spec
     test-inputs-requires
-    refuse-requires
+    refused-on-requires
     returns
     letters-requires
-    whole-requires
-    at-most-requires
+    passes-test-7-requires
     opened-requires
     count-to-requires
-    refuse-requires-2
+    refused-on-requires-2
     returns-2
     returns-3)

@@ -2,7 +2,7 @@ use denote.Ref.{now}
 use Prim.Native.Nat.{_+_}
 use native.Mathlib.Omega.{arith}
 use Rattle.exact.specs.Records.{begin, add}
-use Rattle.encounter.proofs.calls.Requests.{no-byte, begin-short, begin-whole, add-short, add-whole, a-read, no-kind, stopped, called, read-at}
+use Rattle.encounter.proofs.calls.Requests.{no-byte, begin-short, begin-whole, add-short, add-whole, a-read, no-kind, stopped, answered, read-at}
 use borrow.Author.Needs.{needs}
 use Rattle.encounter.proofs.calls.records.take_record.Statement.{statement}
 use Rattle.encounter.proofs.calls.records.take_record.Tie as tie
@@ -25,23 +25,13 @@ stop-requires-2 c κs = search needs
 returns-2 : tie.Need-returns-2
 returns-2 c = let z = c .before .before .before .before .before .before in stopped (now (z .args .script)) (z .args .at) (z .args .s) (z .pre) 2 _ (λ e. omega arith) (begin-short _ _ (c .before .before .before .before .if1 .left) (c .before .before .if2 .taken) (c .before .if3 .taken)) (c .stop2 .ensures)
 
-add-encounter-at : tie.Need-add-encounter-at
-add-encounter-at c = search needs
-
-encounter-at-requires : tie.Need-encounter-at-requires
-encounter-at-requires c κs = search needs
-
-begin-requires : tie.Need-begin-requires
-begin-requires c κs = search needs
-
-add-made : tie.Need-add-made
-add-made c = search needs
-
-made-requires : tie.Need-made-requires
-made-requires c κs = search needs
+take-begin-requires : tie.Need-take-begin-requires
+take-begin-requires c κs = search needs
 
 returns-3 : tie.Need-returns-3
-returns-3 c = let z = c .before .before .before .before .before .before .before .before in called (now (z .args .script)) (z .args .at) (z .args .s) (z .pre) (begin _) (z .args .at + 21) _ _ (begin-whole _ _ (c .before .before .before .before .before .before .if1 .left) (c .before .before .before .before .if2 .taken) (c .before .before .before .if3 .left)) (rw (c .before .before .encounter-at .ensures) at (c .before .begin .ensures .0)) (c .made .ensures)
+returns-3 c =
+    let z = c .before .before .before .before .before .before in
+    answered (now (z .args .script)) (z .args .at) (z .args .s) (z .pre) (begin _) (z .args .at + 21) _ (begin-whole _ _ (c .before .before .before .before .if1 .left) (c .before .before .if2 .taken) (c .before .if3 .left)) (c .take-begin .ensures)
 
 stop-requires-3 : tie.Need-stop-requires-3
 stop-requires-3 c κs = search needs
@@ -49,32 +39,19 @@ stop-requires-3 c κs = search needs
 returns-4 : tie.Need-returns-4
 returns-4 c = let z = c .before .before .before .before .before .before .before in stopped (now (z .args .script)) (z .args .at) (z .args .s) (z .pre) 2 _ (λ e. omega arith) (add-short _ _ (c .before .before .before .before .before .if1 .left) (c .before .before .if4 .taken) (c .before .if5 .taken)) (c .stop3 .ensures)
 
-add-u16-at : tie.Need-add-u16-at
-add-u16-at c = search needs
-
-u16-at-requires : tie.Need-u16-at-requires
-u16-at-requires c κs = search needs
-
-cast-count : tie.Need-cast-count
-cast-count c = search needs
-
-add-requires : tie.Need-add-requires
-add-requires c κs = search needs
-
-add-made-2 : tie.Need-add-made-2
-add-made-2 c = search needs
-
-made-requires-2 : tie.Need-made-requires-2
-made-requires-2 c κs = search needs
+take-add-requires : tie.Need-take-add-requires
+take-add-requires c κs = search needs
 
 returns-5 : tie.Need-returns-5
-returns-5 c = let z = c .before .before .before .before .before .before .before .before .before in called (now (z .args .script)) (z .args .at) (z .args .s) (z .pre) (add _) (z .args .at + 3) _ _ (add-whole _ _ (c .before .before .before .before .before .before .before .if1 .left) (c .before .before .before .before .if4 .taken) (c .before .before .before .if5 .left)) (rw (c .before .before .u16-at .ensures .0) at (c .before .add .ensures .0)) (c .made2 .ensures)
+returns-5 c =
+    let z = c .before .before .before .before .before .before .before in
+    answered (now (z .args .script)) (z .args .at) (z .args .s) (z .pre) (add _) (z .args .at + 3) _ (add-whole _ _ (c .before .before .before .before .before .if1 .left) (c .before .before .if4 .taken) (c .before .if5 .left)) (c .take-add .ensures)
 
 read-requires : tie.Need-read-requires
 read-requires c κs = search needs
 
-add-t20 : tie.Need-add-t20
-add-t20 c = search needs
+add-next : tie.Need-add-next
+add-next c = search needs
 
 returns-6 : tie.Need-returns-6
 returns-6 c = let z = c .before .before .before .before .before .before .before in read-at (now (z .args .script)) (z .args .at) (z .args .s) (z .pre) (z .args .at + 1) _ (a-read _ _ (c .before .before .before .before .before .if1 .left) (c .before .if6 .taken)) (c .read .ensures .0)
@@ -95,23 +72,14 @@ take-record-spec =
     sub-left
     stop-requires-2
     returns-2
-    add-encounter-at
-    encounter-at-requires
-    begin-requires
-    add-made
-    made-requires
+    take-begin-requires
     returns-3
     stop-requires-3
     returns-4
-    add-u16-at
-    u16-at-requires
-    cast-count
-    add-requires
-    add-made-2
-    made-requires-2
+    take-add-requires
     returns-5
     read-requires
-    add-t20
+    add-next
     returns-6
     stop-requires-4
     returns-7)
