@@ -171,28 +171,18 @@ plain_answer same_add(plain_session *s, uint16_t count)
 
 /* src/arithmetic/rounding.rt, src/arithmetic/scaled.rt and src/steps/letters.rt */
 
-static wide pack_any(bool up, uint64_t h, int64_t e, bool rest)
-{
-    int t = 32 - __builtin_clzll(h);
-    uint64_t m = h >> t;
-    if (up && (rest || m << t != h))
-        m++;
-    return m >> 32 ? (wide){0x80000000u, e + t + 1} : (wide){m, e + t};
-}
-
 static wide ratio(bool up, uint64_t n, uint64_t d)
 {
     if (n == 0)
         return (wide){0, 0};
-    uint64_t q = n / d, rest = n % d;
-    int64_t i = 0;
-    while (q < 0x80000000u) {
-        uint64_t next = rest << 16;
-        q = (q << 16) + next / d;
-        rest = next % d;
-        i += 16;
-    }
-    return pack_any(up, q, -i, rest != 0);
+    int s = 64 - __builtin_clzll(d), t = __builtin_clzll(n);
+    uint64_t k = d << (48 - s);
+    if (k <= n << t >> 16)
+        t--;
+    uint64_t x = n << t, rest = (x % k) << 16, q = (x / k << 16) + rest / k;
+    if (up && rest % k != 0)
+        q++;
+    return fit(up, q, 32 - (s + t));
 }
 
 static uint64_t square(int64_t x)
