@@ -3,13 +3,13 @@
 
     python3 examples/make.py [FOLDER]
 
-The folder is this one where none is named. A script is records one after another: a byte of kind, then the body,
-numbers little-endian. Lengths are whole centimetres.
+The folder is this one where none is named; it must be there. A script is records one after another: a byte of kind,
+then the body, numbers little-endian. Lengths are whole centimetres.
 """
 
+import argparse
 import pathlib
 import struct
-import sys
 
 
 def begin(R, sx, sy, xm, ym):
@@ -66,7 +66,12 @@ SCRIPTS = {
 
 
 def main():
-    folder = pathlib.Path(sys.argv[1]) if len(sys.argv) > 1 else pathlib.Path(__file__).resolve().parent
+    here = pathlib.Path(__file__).resolve().parent
+    parser = argparse.ArgumentParser(description="Writes the example scripts: " + ", ".join(SCRIPTS) + ".")
+    parser.add_argument("folder", nargs="?", type=pathlib.Path, default=here, help="where to; examples/ if not named")
+    folder = parser.parse_args().folder
+    if not folder.is_dir():
+        parser.error(f"{folder} is no folder")
     for name, script in SCRIPTS.items():
         (folder / f"{name}.script").write_bytes(script)
 

@@ -4,12 +4,14 @@
     python3 tests/bindings.py [--library FOLDER] [--seed N]
 
 The folder holds the library; `rt staticlib jinthuol` writes it to target/staticlib. Encounters go through
-bindings/c/example.c, compiled as C and as C++. The tests of bindings/rust are run. Scripts go through bindings/python
-and bindings/rust, and their records as calls through bindings/python, where every number of the session is compared
-too. What is built goes to target/bindings. Exits with 1 at the first difference.
+bindings/c/example.c, compiled as C and as C++; guard.c tries that no call writes past a session. The tests of
+bindings/rust are run. Scripts go through bindings/python and bindings/rust, and their records as calls through
+bindings/python, where every number of the session is compared too. What is built goes to target/bindings. Exits with 1
+at the first difference.
 """
 
 import itertools
+import math
 import os
 import pathlib
 import random
@@ -30,7 +32,7 @@ from checks import shortened
 from encounters import DOCUMENTS, EDGES, SMALL, THIN
 from options import ROOT
 from records import MOST_COUNT, READ
-from reference import LARGEST_N, Session
+from reference import LARGEST_N, REFUSALS, Session
 
 BINDINGS = ROOT / "bindings"
 BUILT = ROOT / "target/bindings"
@@ -84,12 +86,22 @@ def chosen(rng, encounter, most):
         yield drawn.whole(rng, most)
 
 
-LINE = ["call", *(name for name, _ in fields.ANSWER)]
+WORDS = {"begin": "begun", "add": "added", "read": "read"}
 
 
-def words(call, answer):
-    """The words of a line."""
-    return [call, *map(str, fields.answer_numbers(answer)[:-1]), answer.class_name]
+def as_double(m, e):
+    """An end in 17 digits, or `none` where e does not fit a double."""
+    return "%.17g" % math.ldexp(m, e) if -1074 <= e <= 992 else "none"
+
+
+def line(call, answer):
+    """What the program prints of a call."""
+    if answer.refusal:
+        return f"refused {answer.refusal}: {REFUSALS[answer.refusal].replace('−', '-')}"
+    words = [WORDS[call], answer.N]
+    if call == "read":
+        words += [*answer.lower, *answer.upper, answer.class_name, as_double(*answer.lower), as_double(*answer.upper)]
+    return " ".join(map(str, words))
 
 
 def called(R, sx, sy, xm, ym, N):
@@ -105,8 +117,11 @@ def of_c(rng, library):
     programs = {}
     for compiler, language in (("gcc", ["-std=c99", "-x", "c"]), ("g++", ["-std=c++11", "-x", "c++"])):
         programs[compiler] = BUILT / f"example-{compiler}"
-        source = [*language, f"-I{BINDINGS}/c", BINDINGS / "c/example.c", "-x", "none", library / "libjinthuol.a"]
-        output([compiler, "-O2", *WARNINGS, *source, "-o", programs[compiler]])
+        guard = BUILT / f"guard-{compiler}"
+        for source, program in (BINDINGS / "c/example.c", programs[compiler]), (ROOT / "tests/guard.c", guard):
+            files = [*language, f"-I{BINDINGS}/c", source, "-x", "none", library / "libjinthuol.a", "-lm"]
+            output([compiler, "-O2", *WARNINGS, *files, "-o", program])
+        output([guard])
     tried = list(cases(rng))
     due = [(case, *call) for case in tried for call in called(*case)]
     answered = {(call, answer.refusal) for _, call, answer in due}
@@ -118,11 +133,9 @@ def of_c(rng, library):
         found = output([program], input=lines).decode().splitlines()
         if len(found) != len(due):
             differs(f"lines by {compiler}", len(found), len(due))
-        for line, (case, call, answer) in zip(found, due):
-            expected = words(call, answer)
-            if line != " ".join(expected):
-                names = [name for name, a, b in zip(LINE, line.split(" "), expected) if a != b]
-                differs(f"by {compiler}, {case}: {', '.join(names)}", line, " ".join(expected))
+        for printed, (case, call, answer) in zip(found, due):
+            if printed != line(call, answer):
+                differs(f"by {compiler}, {call} of {case}", printed, line(call, answer))
     return len(tried)
 
 
@@ -182,8 +195,8 @@ def of_scripts(rng, rust):
         for language, listing in found.items():
             if listing != due.encode():
                 pairs = itertools.zip_longest(listing.decode(errors="replace").splitlines(), due.splitlines())
-                line = next((pair for pair in pairs if pair[0] != pair[1]), ("a line end", "another"))
-                differs(f"by {language}, {name}: {shortened(script.hex(), 300)}", *line)
+                first = next((pair for pair in pairs if pair[0] != pair[1]), ("a line end", "another"))
+                differs(f"by {language}, {name}: {shortened(script.hex(), 300)}", *first)
         calls += call_by_call(name, script, python)
     try:
         python.Session.empty().begin(python.Encounter(R=1 << 32, sx=1, sy=1, xm=0, ym=0))

@@ -20,6 +20,21 @@ EXPONENTIAL_CUT = 256
 # "Class: alert where lower end × 10,000 ≥ 1, else clear."
 ALERT_FACTOR = 10_000
 
+# Both tables of refusals, in their order.
+REFUSALS = {
+    8: "script file longer than 65,536 bytes",
+    1: "no kind byte, or kind is not 1, 2 or 3",
+    2: "body shorter than its kind needs",
+    3: "R is 0 or above 10,000,000",
+    4: "sx or sy is 0 or above 10,000,000",
+    5: "sy above sx",
+    6: "a miss outside −10,000,000 to 10,000,000",
+    7: "upper t above 64",
+    21: "add or read with no encounter begun",
+    22: "add: N + count above 4,096",
+    23: "read: 2M above N + 2",
+}
+
 
 # The rounded steps.
 

@@ -1,5 +1,5 @@
 #!/usr/bin/env python3
-"""Tries ./screen, which runs the program and has it built first: its options, files that cannot be read, runs that fail.
+"""Tries ./screen, which runs the program and has it built first: its options, unreadable files, runs that fail.
 
     python3 tests/wrapper.py
 
@@ -101,7 +101,8 @@ def of_wrong_use(folder):
     # Root reads every file; nobody else gets into the folder.
     folder.chmod(0o755)
     user = {"user": NOBODY} if os.getuid() == 0 else {}
-    refuses("an unreadable file", run(unreadable, wrapper=copied(folder / "copy") / "screen", **user), 2, "cannot be read")
+    copy = copied(folder / "copy") / "screen"
+    refuses("an unreadable file", run(unreadable, wrapper=copy, **user), 2, "cannot be read")
     master, slave = os.openpty()
     refuses("no file, and a terminal", run(stdin=slave), 2, "no file")
     os.close(master)

@@ -1,46 +1,83 @@
-/* Reads encounters from standard input, a line each: R sx sy xm ym N. Begins the encounter on a session of its own, adds N - 1 terms, reads
- * the bracket, and prints the three answers, a line each: the call, the refusal's number or 0, the order, m and e of both ends, and the class.
+/* Brackets of encounters from standard input, a line each: R sx sy xm ym N. Begins the encounter, adds N - 1 terms, reads, and prints the three answers
+ * in the words of a listing; after a read both ends once more as doubles, and with a refusal its condition.
  *
- *     gcc -std=c99 -I bindings/c bindings/c/example.c target/staticlib/libjinthuol.a -o example
- *     echo 500 5000 100 1000 0 55 | ./example
- */
+ *     rt staticlib jinthuol
+ *     gcc -std=c99 -I bindings/c bindings/c/example.c target/staticlib/libjinthuol.a -lm -o target/example
+ *     echo 500 5000 100 1000 0 55 | target/example
+ *
+ * As C++: g++ -std=c++11 -x c++, the same files but `-x none` before the library. */
 #include <inttypes.h>
+#include <math.h>
 #include <stdio.h>
-#include <string.h>
 
 #include "jinthuol.h"
 
-/* The header's session is 56 words without padding. That no call writes past them is tested by the guard below. */
-typedef char session_has_56_words[sizeof(jinthuol_session) == 56 * sizeof(uint32_t) ? 1 : -1];
+/* The condition of a refusal: those that begin, add and read have, from the table of jinthuol.h. */
+static const char *condition(uint32_t refusal)
+{
+    switch (refusal) {
+    case 3:
+        return "R is 0 or above 10,000,000";
+    case 4:
+        return "sx or sy is 0 or above 10,000,000";
+    case 5:
+        return "sy above sx";
+    case 6:
+        return "a miss outside -10,000,000 to 10,000,000";
+    case 7:
+        return "upper t above 64";
+    case 21:
+        return "add or read with no encounter begun";
+    case 22:
+        return "add: N + count above 4,096";
+    case 23:
+        return "read: 2M above N + 2";
+    default:
+        return "no such refusal";
+    }
+}
 
-static struct {
-    jinthuol_session session;
-    uint32_t guard[8];
-} lent;
+/* An end as a double, with 17 digits, which tell one double from every other. m has 32 bits and a double 53, so it is exact wherever e fits. */
+static void print_double(jinthuol_scaled end)
+{
+    if (end.e < -1074 || end.e > 992) {
+        printf(" none");
+    } else {
+        printf(" %.17g", ldexp(end.m, end.e));
+    }
+}
 
-static const uint32_t unchanged[8] = {0x5a5a5a5a, 1, 0xffffffff, 2, 0, 3, 0x80000000, 4};
+static void print_refusal(uint32_t refusal)
+{
+    printf("refused %" PRIu32 ": %s\n", refusal, condition(refusal));
+}
+
+/* The answer of a begin or an add: the order, and nothing in the other fields. */
+static void print_order(const char *word, jinthuol_answer a)
+{
+    if (a.refusal != 0) {
+        print_refusal(a.refusal);
+    } else {
+        printf("%s %" PRIu32 "\n", word, a.N);
+    }
+}
+
+static void print_read(jinthuol_answer a)
+{
+    if (a.refusal != 0) {
+        print_refusal(a.refusal);
+        return;
+    }
+    printf("read %" PRIu32 " %" PRIu32 " %" PRId32 " %" PRIu32 " %" PRId32, a.N, a.lower.m, a.lower.e, a.upper.m, a.upper.e);
+    printf(" %s", a.class_ == JINTHUOL_ALERT ? "alert" : "clear");
+    print_double(a.lower);
+    print_double(a.upper);
+    printf("\n");
+}
 
 static int within(long long x, long long low, long long high)
 {
     return low <= x && x <= high;
-}
-
-static const char *class_name(uint32_t number)
-{
-    switch (number) {
-    case JINTHUOL_CLEAR:
-        return "clear";
-    case JINTHUOL_ALERT:
-        return "alert";
-    default:
-        return "no class";
-    }
-}
-
-static void print(const char *call, jinthuol_answer a)
-{
-    printf("%s %" PRIu32 " %" PRIu32 " %" PRIu32 " %" PRId32 " %" PRIu32 " %" PRId32 " %s\n", call, a.refusal, a.N, a.lower.m, a.lower.e,
-           a.upper.m, a.upper.e, class_name(a.class_));
 }
 
 int main(void)
@@ -48,21 +85,20 @@ int main(void)
     long long R, sx, sy, xm, ym, N;
     int found;
 
+    if (jinthuol_version() != JINTHUOL_VERSION) {
+        fprintf(stderr, "the library has version %" PRIu32 ", its header %d\n", jinthuol_version(), JINTHUOL_VERSION);
+        return 1;
+    }
     while ((found = scanf("%lld %lld %lld %lld %lld %lld", &R, &sx, &sy, &xm, &ym, &N)) == 6) {
         if (!within(R, 0, UINT32_MAX) || !within(sx, 0, UINT32_MAX) || !within(sy, 0, UINT32_MAX) || !within(xm, INT32_MIN, INT32_MAX) ||
             !within(ym, INT32_MIN, INT32_MAX) || !within(N, 1, 65536)) {
             break;
         }
         jinthuol_encounter encounter = {(uint32_t)R, (uint32_t)sx, (uint32_t)sy, (int32_t)xm, (int32_t)ym};
-        memcpy(lent.guard, unchanged, sizeof unchanged);
-        lent.session = jinthuol_empty();
-        print("begin", jinthuol_begin(&lent.session, encounter));
-        print("add", jinthuol_add(&lent.session, (uint16_t)(N - 1)));
-        print("read", jinthuol_read(lent.session));
-        if (memcmp(lent.guard, unchanged, sizeof unchanged) != 0) {
-            fprintf(stderr, "a call wrote past the session\n");
-            return 1;
-        }
+        jinthuol_session session = jinthuol_empty();
+        print_order("begun", jinthuol_begin(&session, encounter));
+        print_order("added", jinthuol_add(&session, (uint16_t)(N - 1)));
+        print_read(jinthuol_read(session));
     }
     if (found != EOF) {
         fprintf(stderr, "not R sx sy xm ym N: a number is missing or does not fit its type\n");

@@ -1,11 +1,39 @@
 /* A proved bracket of the collision probability of one short encounter.
  *
- * The functions are those of libjinthuol.a (`rt staticlib jinthuol`). Lengths are whole centimetres. No pointer may be null, also where its
- * length is 0. C converts a number to the type of its parameter or field without a word: test first that it fits.
+ *     jinthuol_session session = jinthuol_empty();
+ *     jinthuol_encounter test_1 = {500, 5000, 100, 1000, 0};    R, sx, sy, xm, ym
+ *     jinthuol_begin(&session, test_1);                         N is 1
+ *     jinthuol_add(&session, 54);                               N is 55
+ *     jinthuol_answer answer = jinthuol_read(session);          both ends, and the class
  *
- * Refusals: 3, R is 0 or above 10,000,000; 4, sx or sy is 0 or above 10,000,000; 5, sy above sx; 6, a miss outside -10,000,000 to 10,000,000;
- * 7, upper t above 64; 21, add or read with no encounter begun; 22, N + count above 4,096; 23, 2M above N + 2. In listings also 1, no kind byte
- * or another kind than 1, 2 and 3; 2, body shorter than its kind needs; 8, script longer than 65,536 bytes. */
+ * The functions are those of libjinthuol.a; `rt staticlib jinthuol` writes it to target/staticlib. example.c beside this file prints their answers.
+ * README.md has the inputs in plain words, docs/TRUST.md what is proved of the functions and what is not.
+ *
+ * Refusals. Each test is made in this order, and the first that refuses gives its number; 0 is accepted.
+ *
+ *      8  script file longer than 65,536 bytes             (jinthuol_run)
+ *      1  no kind byte, or kind is not 1, 2 or 3           (in listings)
+ *      2  body shorter than its kind needs                 (in listings)
+ *      3  R is 0 or above 10,000,000                       (begin)
+ *      4  sx or sy is 0 or above 10,000,000                (begin)
+ *      5  sy above sx                                      (begin)
+ *      6  a miss outside -10,000,000 to 10,000,000         (begin)
+ *      7  upper t above 64                                 (begin)
+ *     21  add or read with no encounter begun              (add, read)
+ *     22  add: N + count above 4,096                       (add)
+ *     23  read: 2M above N + 2                             (read)
+ *
+ * 7 in plain words: (xm/sx)^2 + (ym/sy)^2 + (R/sy)^2 is above 128, which is 2t; it is tested with t rounded up. 23: too few terms are added for the bound of
+ * those left out; a read needs N of at least 2M - 2. README.md has examples.
+ *
+ * What a caller sees to. No pointer may be null, also where its length is 0. C converts a number to the type of its parameter or field without a word:
+ * test first that it fits.
+ *
+ * Threads. The library has no state of its own and starts no thread: all that is kept is in the sessions, which are the caller's. Calls on different
+ * sessions may run at the same time; while a begin or an add runs, nobody else may read or write its session.
+ *
+ * Versions. This header and libjinthuol.a belong together, as one version of the repository has them: the structs are laid out as both say, and nothing
+ * else checks that. A program that may meet another library tests jinthuol_version() == JINTHUOL_VERSION first. */
 #ifndef JINTHUOL_H
 #define JINTHUOL_H
 
@@ -17,13 +45,17 @@
 extern "C" {
 #endif
 
-/* Combined radius R, larger standard deviation sx, smaller sy, mean miss xm and ym. */
+/* One more with each change of a struct or a function of this header, or of what a function answers. */
+#define JINTHUOL_VERSION 1
+
+/* The five inputs, in whole centimetres: combined radius R, larger standard deviation sx, smaller sy, mean miss xm and ym, along the principal axes of
+ * the covariance in the encounter plane. */
 typedef struct {
     uint32_t R, sx, sy;
     int32_t xm, ym;
 } jinthuol_encounter;
 
-/* m x 2^e: m from 2^31 to 2^32 - 1, or zero as m = 0 and e = 0. */
+/* m x 2^e, with a power of two: m from 2^31 to 2^32 - 1, or zero as m = 0 and e = 0. As a double: ldexp(m, e), exact where e is from -1074 to 992. */
 typedef struct {
     uint32_t m;
     int32_t e;
@@ -35,6 +67,7 @@ typedef struct {
     uint32_t words[56];
 } jinthuol_session;
 
+/* The class, by the lower end: alert where it is at least 1/10,000. */
 enum { JINTHUOL_CLEAR = 0, JINTHUOL_ALERT = 1 };
 
 /* The refusal's number, or 0; then the order N, both ends and the class. A refusal has zero in every other field; an accepted begin or add has
@@ -53,6 +86,9 @@ typedef struct {
     bool ended;
 } jinthuol_listing;
 
+/* The library's version: JINTHUOL_VERSION of the header that belongs to it. */
+uint32_t jinthuol_version(void);
+
 /* A session with no encounter begun. */
 jinthuol_session jinthuol_empty(void);
 
@@ -62,7 +98,8 @@ jinthuol_answer jinthuol_begin(jinthuol_session *session, jinthuol_encounter enc
 /* Adds count terms. Refused as 21 or 22, and then the session is as it was. */
 jinthuol_answer jinthuol_add(jinthuol_session *session, uint16_t count);
 
-/* The bracket at the session's order. Refused as 21 or 23. */
+/* The bracket at the session's order. Refused as 21 or 23. The upper end may be above 1 at the first orders that are read: it has the bound of all terms
+ * not yet added in it, and falls as terms are added. */
 jinthuol_answer jinthuol_read(jinthuol_session session);
 
 /* The listing of a script of begin, add and read records, on a session of its own; `0 refused 8` where the script has more than 65,536 bytes.

@@ -1,22 +1,64 @@
 #!/usr/bin/env python3
-"""The calls of libjinthuol.a from Python, by ctypes. Lengths are whole centimetres.
+"""A proved bracket of the collision probability of one short encounter: the calls of libjinthuol.a, by ctypes.
 
     python3 bindings/python/jinthuol.py SCRIPT     prints the listing of a script file
 
-The archive is in the folder that JINTHUOL_LIB_DIR names, else in target/staticlib. gcc links it into a shared object in
-target/bindings.
+Lengths are whole centimetres. A call gives an Answer:
+
+    >>> import jinthuol
+    >>> session = jinthuol.Session.empty()
+    >>> print(session.begin(jinthuol.Encounter(R=500, sx=5000, sy=100, xm=1000, ym=0)))
+    N = 1
+    >>> print(session.read())
+    refused 23: read: 2M above N + 2
+    >>> print(session.add(54))
+    N = 55
+    >>> answer = session.read()
+    >>> print(answer)
+    N = 55: 2627622691 × 2^-35 to 2627623074 × 2^-35, alert
+    >>> answer.floats
+    (0.07647388530313037, 0.07647389644989744)
+    >>> answer.lower.fraction
+    Fraction(2627622691, 34359738368)
+
+The library libjinthuol.a is in the folder that JINTHUOL_LIB_DIR names, else in target/staticlib of the repository,
+where `rt staticlib jinthuol` writes it. At the first import gcc links it into a shared object beside it,
+libjinthuol.so; later imports take that. Where there is no library, or it cannot be linked or is of another version,
+importing raises ImportError.
 """
 
 import ctypes
+import math
 import os
 import pathlib
 import struct
 import subprocess
 import sys
 from ctypes import POINTER, c_bool, c_char, c_char_p, c_int32, c_size_t, c_uint16, c_uint32
+from fractions import Fraction
 from typing import NamedTuple
 
-ROOT = pathlib.Path(__file__).resolve().parents[2]
+# JINTHUOL_VERSION of bindings/c/jinthuol.h.
+VERSION = 1
+
+# The condition of each refusal. 1, 2 and 8 are in listings only.
+REFUSALS = {
+    1: "no kind byte, or kind is not 1, 2 or 3",
+    2: "body shorter than its kind needs",
+    3: "R is 0 or above 10,000,000",
+    4: "sx or sy is 0 or above 10,000,000",
+    5: "sy above sx",
+    6: "a miss outside −10,000,000 to 10,000,000",
+    7: "upper t above 64",
+    8: "script file longer than 65,536 bytes",
+    21: "add or read with no encounter begun",
+    22: "add: N + count above 4,096",
+    23: "read: 2M above N + 2",
+}
+CLASSES = ("clear", "alert")
+
+# A float above 0 is a whole number of 2^-1074.
+LEAST_EXPONENT = -1074
 
 
 class Encounter(NamedTuple):
@@ -29,47 +71,133 @@ class Encounter(NamedTuple):
     ym: int
 
 
-class Inputs(ctypes.Structure):
+class Struct(ctypes.Structure):
+    """A struct of the library. Two are equal where all their fields are."""
+
+    def values(self):
+        return [getattr(self, name) for name, _ in self._fields_]
+
+    def __eq__(self, other):
+        return self.values() == other.values() if type(other) is type(self) else NotImplemented
+
+    def __repr__(self):
+        fields = (f"{name}={value!r}" for (name, _), value in zip(self._fields_, self.values()))
+        return f"{type(self).__name__}({', '.join(fields)})"
+
+
+class Inputs(Struct):
     """An encounter as the library takes it."""
 
     _fields_ = [("R", c_uint32), ("sx", c_uint32), ("sy", c_uint32), ("xm", c_int32), ("ym", c_int32)]
 
 
-class Scaled(ctypes.Structure):
-    """m × 2^e."""
+class Scaled(Struct):
+    """m × 2^e: m from 2^31 to 2^32 − 1, or zero as m = 0 and e = 0."""
 
     _fields_ = [("m", c_uint32), ("e", c_int32)]
 
+    @property
+    def fraction(self):
+        """The number itself."""
+        return Fraction(self.m) * Fraction(2) ** self.e
 
-class Answer(ctypes.Structure):
-    """The refusal's number, or 0; then the order N, both ends and the class (0 clear, 1 alert)."""
+    def float_down(self):
+        """The greatest float that is not above it, which is the number itself where e fits."""
+        return self.rounded(False)
+
+    def float_up(self):
+        """The least float that is not below it, which is the number itself where e fits; inf where all are below it."""
+        return self.rounded(True)
+
+    def rounded(self, up):
+        # m has 32 bits and a float 53: only e can be too small or too large.
+        m, e = self.m, self.e
+        if e < LEAST_EXPONENT:
+            shift = min(LEAST_EXPONENT - e, 32)
+            m, e = -(-m >> shift) if up else m >> shift, LEAST_EXPONENT
+        try:
+            return math.ldexp(m, e)
+        except OverflowError:
+            return math.inf if up else sys.float_info.max
+
+    def __str__(self):
+        return f"{self.m} × 2^{self.e}" if self.m else "0"
+
+
+class Answer(Struct):
+    """The refusal's number, or 0; then the order N, both ends and the class (0 clear, 1 alert).
+
+    The ends and the class are those of a read; begin and add have zero there.
+    """
 
     _fields_ = [("refusal", c_uint32), ("N", c_uint32), ("lower", Scaled), ("upper", Scaled), ("class_", c_uint32)]
 
+    @property
+    def class_name(self):
+        return CLASSES[self.class_]
 
-class Kept(ctypes.Structure):
+    @property
+    def floats(self):
+        """Both ends, the lower one rounded down and the upper one up where it is no float."""
+        return self.lower.float_down(), self.upper.float_up()
+
+    def __str__(self):
+        if self.refusal:
+            return f"refused {self.refusal}: {REFUSALS[self.refusal]}"
+        # The lower end of a read is above 0.
+        ends = f": {self.lower} to {self.upper}, {self.class_name}" if self.lower.m else ""
+        return f"N = {self.N}{ends}"
+
+
+class Kept(Struct):
     """What a session keeps. Only the library writes it."""
 
     _fields_ = [("words", c_uint32 * 56)]
 
 
-class Listing(ctypes.Structure):
+class Listing(Struct):
     """The bytes of the buffer that are used, and whether they are the whole listing."""
 
     _fields_ = [("used", c_size_t), ("ended", c_bool)]
 
 
-def load():
-    archive = pathlib.Path(os.environ.get("JINTHUOL_LIB_DIR", ROOT / "target/staticlib")) / "libjinthuol.a"
-    if not archive.is_file():
-        sys.exit(f"There is no {archive}: `rt staticlib jinthuol` writes it to target/staticlib.")
-    shared = ROOT / "target/bindings/libjinthuol.so"
-    shared.parent.mkdir(parents=True, exist_ok=True)
-    # Another program may have the shared object open: it is replaced whole.
+def linked(archive, shared):
+    """Has gcc link the library into a shared object, where that is not of this library already."""
+    built = archive.stat().st_mtime_ns
+    if shared.is_file() and shared.stat().st_mtime_ns == built:
+        return
+    # Another program may have the shared object open, or link it now: it is replaced whole.
     new = shared.with_suffix(f".{os.getpid()}")
-    subprocess.run(["gcc", "-shared", "-o", new, "-Wl,--whole-archive", archive, "-Wl,--no-whole-archive"], check=True)
-    os.replace(new, shared)
-    library = ctypes.CDLL(str(shared))
+    try:
+        command = ["gcc", "-shared", "-o", new, "-Wl,--whole-archive", archive, "-Wl,--no-whole-archive"]
+        subprocess.run(command, check=True, capture_output=True, text=True)
+        os.utime(new, ns=(built, built))
+        os.replace(new, shared)
+    except FileNotFoundError as error:
+        raise ImportError(f"gcc has to link {archive} into a shared object, and there is no gcc") from error
+    except OSError as error:
+        raise ImportError(f"{shared} could not be written: {error.strerror}") from error
+    except subprocess.CalledProcessError as error:
+        raise ImportError(f"gcc could not link {archive} into {shared}: {error.stderr.strip()}") from error
+    finally:
+        new.unlink(missing_ok=True)
+
+
+def load():
+    here = pathlib.Path(__file__).resolve().parent
+    folder = pathlib.Path(os.environ.get("JINTHUOL_LIB_DIR") or here / "../../target/staticlib").resolve()
+    archive, shared = folder / "libjinthuol.a", folder / "libjinthuol.so"
+    again = "run `rt staticlib jinthuol` in the folder of the repository"
+    if not archive.is_file():
+        raise ImportError(f"there is no {archive}: {again}, or set JINTHUOL_LIB_DIR to the folder that has it")
+    linked(archive, shared)
+    try:
+        library = ctypes.CDLL(str(shared))
+        version = library.jinthuol_version()
+    except (OSError, AttributeError) as error:
+        raise ImportError(f"{archive} is not the library that this module is for: {again}") from error
+    if version != VERSION:
+        raise ImportError(f"{archive} has version {version}, this module is for version {VERSION}: {again}")
     for name, result, *arguments in (
         ("empty", Kept),
         ("begin", Answer, POINTER(Kept), Inputs),
@@ -82,7 +210,12 @@ def load():
     return library
 
 
-LIBRARY = load()
+try:
+    LIBRARY = load()
+except ImportError as error:
+    if __name__ == "__main__":
+        sys.exit(f"jinthuol.py: {error}")
+    raise
 
 
 class Session:
@@ -100,14 +233,17 @@ class Session:
         return cls(LIBRARY.jinthuol_empty())
 
     def begin(self, encounter):
+        """Begins an encounter at order N = 1. Refused as 3 to 7, and then the session is as it was."""
         packed = struct.pack("=IIIii", *encounter)
         return LIBRARY.jinthuol_begin(self.kept, Inputs.from_buffer_copy(packed))
 
     def add(self, count):
+        """Adds count terms. Refused as 21 or 22, and then the session is as it was."""
         struct.pack("=H", count)
         return LIBRARY.jinthuol_add(self.kept, count)
 
     def read(self):
+        """The bracket at the session's order. Refused as 21 or 23."""
         return LIBRARY.jinthuol_read(self.kept)
 
 
@@ -120,7 +256,17 @@ def run(script):
     return ctypes.string_at(out, listing.used)
 
 
+def main():
+    if len(sys.argv) != 2 or sys.argv[1].startswith("-"):
+        print("usage: python3 bindings/python/jinthuol.py SCRIPT", file=sys.stderr)
+        sys.exit(2)
+    try:
+        script = pathlib.Path(sys.argv[1]).read_bytes()
+    except OSError as error:
+        print(f"jinthuol.py: {error.filename}: {error.strerror}", file=sys.stderr)
+        sys.exit(2)
+    sys.stdout.buffer.write(run(script))
+
+
 if __name__ == "__main__":
-    if len(sys.argv) != 2:
-        sys.exit("usage: python3 bindings/python/jinthuol.py SCRIPT")
-    sys.stdout.buffer.write(run(pathlib.Path(sys.argv[1]).read_bytes()))
+    main()

@@ -3,8 +3,9 @@
 //!
 //! Nothing checks the declarations against the library but the tests.
 
+use crate::answer::Scaled;
 use crate::script::Listing;
-use crate::session::{Encounter, Scaled, Session};
+use crate::session::{Encounter, Session};
 
 /// The refusal's number, or 0; then the order N, both ends and the class. The class is a number here:
 /// an enum of Rust would trust the library to give no other number than its own.
@@ -18,9 +19,12 @@ pub struct Answer {
     pub class: u32,
 }
 
-// `safe`: the types of these four say all that they trust. A reference is valid, and not shared while
+// `safe`: the types of these five say all that they trust. A reference is valid, and not shared while
 // it is lent. A `Session` came from these calls, since nothing else writes its private field.
 unsafe extern "C" {
+    /// Trusts nothing.
+    pub safe fn jinthuol_version() -> u32;
+
     /// Trusts nothing.
     pub safe fn jinthuol_empty() -> Session;
 

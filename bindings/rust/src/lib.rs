@@ -8,10 +8,13 @@
 //!
 //! let mut session = Session::empty();
 //! assert_eq!(session.begin(Encounter { R: 500, sx: 5000, sy: 100, xm: 1000, ym: 0 }), Ok(1));
-//! assert_eq!(session.read(), Err(Refusal(23)));
+//! let refusal = session.read().unwrap_err();
+//! assert_eq!(refusal.to_string(), "refused 23: read: 2M above N + 2");
 //! assert_eq!(session.add(54), Ok(55));
 //! let answer = session.read()?;
-//! assert_eq!((answer.N, answer.class), (55, Class::Alert));
+//! assert_eq!(answer.to_string(), "N = 55: 2627622691 × 2^-35 to 2627623074 × 2^-35, alert");
+//! assert_eq!(answer.class, Class::Alert);
+//! assert_eq!(answer.lower.to_f64(), Some(0.07647388530313037));
 //! # Ok::<(), Refusal>(())
 //! ```
 //!
@@ -22,12 +25,26 @@
 //! ```
 #![deny(missing_docs, unsafe_code, unsafe_op_in_unsafe_fn)]
 
+#[forbid(unsafe_code)]
+mod answer;
 #[allow(unsafe_code)]
 mod ffi;
+#[forbid(unsafe_code)]
+mod refusal;
 #[forbid(unsafe_code)]
 mod script;
 #[forbid(unsafe_code)]
 mod session;
 
+pub use answer::{Answer, Class, Scaled};
+pub use refusal::Refusal;
 pub use script::{run, run_into, Listing};
-pub use session::{Answer, Class, Encounter, Refusal, Scaled, Session};
+pub use session::{Encounter, Session};
+
+/// The version of the library's functions that this crate is for: JINTHUOL_VERSION of bindings/c/jinthuol.h.
+pub const VERSION: u32 = 1;
+
+/// The version of the library that this crate was linked with. Where it is not [`VERSION`], no other call may be made.
+pub fn library_version() -> u32 {
+    ffi::jinthuol_version()
+}

@@ -1,7 +1,7 @@
 //! Document 01's encounters and refusals through begin, add and read.
 #![allow(non_snake_case)]
 
-use jinthuol::{Answer, Class, Encounter, Refusal, Scaled, Session};
+use jinthuol::{library_version, Answer, Class, Encounter, Refusal, Scaled, Session, VERSION};
 
 const HALF: Encounter = of(10, 10, 10, 0, 0);
 const FULL: Encounter = of(8, 1, 1, 8, 0);
@@ -32,6 +32,11 @@ fn answer(N: u32, lower: (u32, i32), upper: (u32, i32), class: Class) -> Answer 
 #[test]
 fn sizes() {
     assert_eq!((size_of::<Session>(), align_of::<Session>()), (224, 4));
+}
+
+#[test]
+fn versions() {
+    assert_eq!(library_version(), VERSION);
 }
 
 #[test]
@@ -148,6 +153,50 @@ fn refusals_in_words() {
         assert!(!Refusal(number).to_string().contains("no such"));
     }
     assert_eq!(Refusal(9).to_string(), "refused 9: no such refusal");
+}
+
+#[test]
+fn answers_in_words() {
+    let read = at(HALF, 1).read().unwrap();
+    assert_eq!(read.to_string(), "N = 1: 2605029163 × 2^-33 to 3907544026 × 2^-33, alert");
+    assert_eq!((Scaled { m: 0, e: 0 }).to_string(), "0");
+    assert_eq!(format!("{:>6}|{}", Class::Clear, Class::Alert), " clear|alert");
+}
+
+/// The f64 of a number is the number, and there is none just where no f64 is.
+#[test]
+fn as_f64() {
+    let of = |m, e| Scaled { m, e }.to_f64();
+    let least = f64::from_bits(1);
+    assert_eq!(of(0, 0), Some(0.0));
+    assert_eq!(of(1 << 31, -31), Some(1.0));
+    assert_eq!(of(3 << 30, -31), Some(1.5));
+    assert_eq!(of(2605029163, -33), Some(2605029163.0 / 8589934592.0));
+    assert_eq!(of(1 << 31, -1105), Some(least));
+    assert_eq!(of(1 << 31, -1106), None);
+    assert_eq!(of((1 << 31) + 1, -1074), Some(f64::from_bits((1 << 31) + 1)));
+    assert_eq!(of((1 << 31) + 2, -1075), Some(f64::from_bits((1 << 30) + 1)));
+    assert_eq!(of((1 << 31) + 1, -1075), None);
+    assert_eq!(of(u32::MAX, -1054), Some(f64::from_bits(0xffff_ffff << 20)));
+    assert_eq!(of(u32::MAX, -1053), Some(f64::from_bits(0x001f_ffff_ffe0_0000)));
+    assert_eq!(of(u32::MAX, 992), Some(f64::from_bits(0x7fef_ffff_ffe0_0000)));
+    assert_eq!(of(1 << 31, 992), Some(f64::from_bits(0x7fe0_0000_0000_0000)));
+    for e in [993, 1024, i32::MAX, -1107, -3000, i32::MIN] {
+        assert_eq!(of(1 << 31, e), None, "{e}");
+        assert_eq!(of(u32::MAX, e), None, "{e}");
+    }
+    // Every end that fits comes back from its bits.
+    for e in -1074..=992 {
+        for m in [1 << 31, (1 << 31) + 1, 0xaaaa_aaab, u32::MAX] {
+            let bits = of(m, e).unwrap().to_bits();
+            let field = (bits >> 52) as i32;
+            // 1.f × 2^(field − 1023), or 0.f × 2^-1022.
+            let whole = (bits & ((1 << 52) - 1)) + u64::from(field > 0) * (1 << 52);
+            let exponent = field.max(1) - 1075;
+            let shift = e - exponent;
+            assert_eq!(whole, u64::from(m) << shift, "{m} {e}");
+        }
+    }
 }
 
 #[test]

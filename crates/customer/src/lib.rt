@@ -17,6 +17,7 @@ use jinthuol::jinthuol_begin;
 use jinthuol::jinthuol_empty;
 use jinthuol::jinthuol_read;
 use jinthuol::jinthuol_run;
+use jinthuol::jinthuol_version;
 use listing::put_line;
 use listing::script::Piece;
 use listing::script::put_lines;
@@ -100,6 +101,10 @@ pub fn bracket_exported(E: Encounter, count: u16) -> jinthuol::Answer
 }
 
 // The functions that take no session.
+fn the_version() -> u32 {
+    jinthuol_version()
+}
+
 fn any_number(n: u32) -> Scaled {
     Scaled::whole(n)
 }

@@ -4,6 +4,7 @@ ghost use Rattle.encounter.specs.Session.{empty as empty-session};
 ghost use Rattle.encounter.specs.Calls.{begins, adds, reads, call, Reached};
 ghost use Rattle.jinthuol.specs.Answer.{class-number, numbered, called};
 ghost use Rattle.jinthuol.specs.Run.{RunOf};
+ghost use Rattle.jinthuol.specs.Version.{version};
 use encounter::calls;
 use encounter::state;
 use encounter::state::Class;
@@ -13,6 +14,9 @@ use exact::LARGEST_SCRIPT;
 use exact::Scaled;
 use listing::script::put_lines;
 use listing::script::put_too_long;
+
+// The version of the functions below and their structs; bindings/c/jinthuol.h has the same number.
+pub const VERSION: u32 = 1;
 
 // An answer, with its class as a number.
 #[repr(C)]
@@ -82,6 +86,13 @@ fn added(s: Session, count: u16) -> Called
     ensures { λ r. ⌜ (r ≡ called (call (adds count) s)) × Reached (r .session) ⌝ }
 {
     called_of(calls::add(s, count))
+}
+
+#[no_mangle]
+pub extern "C" fn jinthuol_version() -> u32
+    ensures { λ r. ⌜ r ≡ version ⌝ }
+{
+    VERSION
 }
 
 // No encounter begun.

@@ -1,0 +1,85 @@
+//! What a read answers.
+
+use std::fmt;
+
+/// m × 2^e: m from 2^31 to 2^32 − 1, or zero as m = 0 and e = 0.
+#[repr(C)]
+#[derive(Clone, Copy, Debug, PartialEq, Eq)]
+pub struct Scaled {
+    /// The mantissa.
+    pub m: u32,
+    /// The exponent.
+    pub e: i32,
+}
+
+impl Scaled {
+    /// The same number as an f64, or none where no f64 is this number. An f64 has 53 bits for the 32
+    /// of m, so every end has one whose e is from −1074 to 992.
+    pub fn to_f64(self) -> Option<f64> {
+        if self.m == 0 {
+            return Some(0.0);
+        }
+        // With an odd m it is an f64 where it is a whole number of 2^-1074 and below 2^1024.
+        let zeros = self.m.trailing_zeros();
+        let (m, e) = (self.m >> zeros, i64::from(self.e) + i64::from(zeros));
+        if e < -1074 || e + i64::from(m.ilog2()) > 1023 {
+            return None;
+        }
+        // In two steps, since 2^e alone may be no f64; neither rounds.
+        let first = e / 2;
+        Some(f64::from(m) * power(first) * power(e - first))
+    }
+}
+
+/// 2^k, for k from −1022 to 1023.
+fn power(k: i64) -> f64 {
+    f64::from_bits(((k + 1023) as u64) << 52)
+}
+
+impl fmt::Display for Scaled {
+    fn fmt(&self, f: &mut fmt::Formatter<'_>) -> fmt::Result {
+        match self.m {
+            0 => write!(f, "0"),
+            m => write!(f, "{m} × 2^{}", self.e),
+        }
+    }
+}
+
+/// What a read answers where it is not refused. Elsewhere the answer has the refusal's number too;
+/// here a [`Refusal`](crate::Refusal) has it.
+#[allow(non_snake_case)]
+#[derive(Clone, Copy, Debug, PartialEq, Eq)]
+pub struct Answer {
+    /// The order: how many terms were summed.
+    pub N: u32,
+    /// The lower end.
+    pub lower: Scaled,
+    /// The upper end.
+    pub upper: Scaled,
+    /// The class, by the lower end.
+    pub class: Class,
+}
+
+impl fmt::Display for Answer {
+    fn fmt(&self, f: &mut fmt::Formatter<'_>) -> fmt::Result {
+        write!(f, "N = {}: {} to {}, {}", self.N, self.lower, self.upper, self.class)
+    }
+}
+
+/// Alert where the lower end × 10,000 is at least 1, else clear.
+#[derive(Clone, Copy, Debug, PartialEq, Eq)]
+pub enum Class {
+    /// The lower end is below 1/10,000.
+    Clear,
+    /// The lower end is at least 1/10,000.
+    Alert,
+}
+
+impl fmt::Display for Class {
+    fn fmt(&self, f: &mut fmt::Formatter<'_>) -> fmt::Result {
+        f.pad(match self {
+            Class::Clear => "clear",
+            Class::Alert => "alert",
+        })
+    }
+}

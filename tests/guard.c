@@ -1,0 +1,25 @@
+/* Lends a session with words behind it to begin and add, and exits with 1 where one of these words was written or the header's session has padding: so the
+ * header's session is as large as the library's, or larger. That it is not larger, tests/bindings.py tells from Python's, which has the same words. */
+#include <string.h>
+
+#include "jinthuol.h"
+
+typedef char session_has_no_padding[sizeof(jinthuol_session) == sizeof(((jinthuol_session *)0)->words) ? 1 : -1];
+
+static const uint32_t behind[64] = {0x5a5a5a5a, 1, 0xffffffff, 2, 0, 3, 0x80000000, 4};
+
+int main(void)
+{
+    struct {
+        jinthuol_session session;
+        uint32_t guard[64];
+    } lent;
+    jinthuol_encounter encounter = {500, 5000, 100, 1000, 0};
+
+    memcpy(lent.guard, behind, sizeof behind);
+    lent.session = jinthuol_empty();
+    if (jinthuol_begin(&lent.session, encounter).N != 1 || jinthuol_add(&lent.session, 54).N != 55) {
+        return 1;
+    }
+    return memcmp(lent.guard, behind, sizeof behind) != 0;
+}

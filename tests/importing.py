@@ -1,0 +1,214 @@
+#!/usr/bin/env python3
+"""Tries bindings/python/jinthuol.py: importing it, and what it adds to the library's answers.
+
+    python3 tests/importing.py [--seed N]
+
+`rt staticlib jinthuol` has written the library to target/staticlib. Importing is tried where the library is missing, of
+another version or no library, without gcc, twice, from other folders and where the shared object cannot be written.
+Floats and fractions are compared with exact ones. Exits with 1 where anything differs.
+"""
+
+import importlib
+import itertools
+import math
+import os
+import pathlib
+import random
+import shutil
+import subprocess
+import sys
+import tempfile
+from fractions import Fraction
+
+sys.dont_write_bytecode = True
+import options
+import scaled
+from checks import Checks
+from options import ROOT
+from reference import REFUSALS
+
+MODULE = ROOT / "bindings/python/jinthuol.py"
+LIBRARY = ROOT / "target/staticlib/libjinthuol.a"
+EXAMPLE = ROOT / "examples/test-1"
+# Seconds for one run.
+LONGEST_RUN = 60
+NO_GCC = {"PATH": "/nowhere"}
+
+checks = Checks("importing")
+
+
+def python(*arguments, module=MODULE, library=None, **given):
+    """Status, standard output and standard error of Python, which finds the module and the library in these folders."""
+    environment = {"PATH": os.environ["PATH"], "PYTHONPATH": str(module.parent), "PYTHONDONTWRITEBYTECODE": "1"}
+    environment |= {"JINTHUOL_LIB_DIR": str(library)} if library else {}
+    environment |= given.pop("env", {})
+    command = [sys.executable, *map(str, arguments)]
+    ended = subprocess.run(command, capture_output=True, text=True, timeout=LONGEST_RUN, env=environment, **given)
+    return ended.returncode, ended.stdout, ended.stderr
+
+
+# The caller's program goes on after an import that fails.
+CALLER = """
+try:
+    import jinthuol
+    print(jinthuol.Session.empty().begin(jinthuol.Encounter(500, 5000, 100, 1000, 0)))
+except ImportError as error:
+    print("ImportError:", error)
+print("the caller goes on")
+"""
+IMPORTED = 0, "N = 1\nthe caller goes on\n", ""
+
+
+def imports(what, **given):
+    found = python("-c", CALLER, **given)
+    checks.check(found == IMPORTED, "imports", f"{what}: {found}")
+
+
+def fails(what, *says, **given):
+    """The import raises ImportError with these words, and the caller goes on."""
+    status, stdout, stderr = found = python("-c", CALLER, **given)
+    ok = status == 0 and stderr == "" and stdout.startswith("ImportError: ")
+    ok = ok and stdout.endswith("\nthe caller goes on\n") and all(words in stdout for words in says)
+    checks.check(ok, "imports", f"{what}: {found}")
+
+
+def archive(folder, code):
+    """A library of the test's own."""
+    folder.mkdir()
+    (folder / "own.c").write_text(code)
+    subprocess.run(["gcc", "-fPIC", "-c", folder / "own.c", "-o", folder / "own.o"], check=True)
+    subprocess.run(["ar", "rc", folder / "libjinthuol.a", folder / "own.o"], check=True)
+    return folder
+
+
+def of_wrong_libraries(folder):
+    run = "rt staticlib jinthuol"
+    fails("no library", "there is no", str(folder), run, library=folder)
+    fails("no folder", "there is no", run, library=folder / "nothing")
+    later = archive(folder / "later", "unsigned jinthuol_version(void) { return 99; }")
+    fails("another version", "version 99", run, library=later)
+    other = archive(folder / "other", "int other(void) { return 0; }")
+    fails("another library", "is not the library", run, library=other)
+    (folder / "broken").mkdir()
+    (folder / "broken/libjinthuol.a").write_bytes(b"no archive\n")
+    fails("no archive", "could not link", library=folder / "broken")
+    status, stdout, stderr = found = python(MODULE, EXAMPLE.with_suffix(".script"), library=folder)
+    ok = status == 1 and stdout == "" and stderr.count("\n") == 1 and stderr.startswith("jinthuol.py: there is no")
+    checks.check(ok, "imports", f"the program without a library: {found}")
+
+
+def of_linking(folder):
+    """The shared object is made once, and again where the library is another."""
+    place = folder / "a folder"
+    place.mkdir()
+    shutil.copy(LIBRARY, place)
+    shared = place / "libjinthuol.so"
+    fails("no gcc", "there is no gcc", library=place, env=NO_GCC)
+    imports("first", library=place)
+    made = shared.stat()
+    imports("again, without gcc", library=place, env=NO_GCC)
+    imports("from another folder", library=place, cwd="/", env=NO_GCC)
+    imports("by a path from here", library="a folder", cwd=folder, env=NO_GCC)
+    checks.check(shared.stat() == made or shared.stat().st_ino == made.st_ino, "imports", "made twice")
+    for seconds in 5, -5:
+        time = LIBRARY.stat().st_mtime + seconds
+        os.utime(place / "libjinthuol.a", (time, time))
+        fails("another library, no gcc", "there is no gcc", library=place, env=NO_GCC)
+        imports("another library", library=place)
+        checks.check(shared.stat().st_ino != made.st_ino, "imports", "not made again")
+        made = shared.stat()
+    names = sorted(path.name for path in place.iterdir())
+    checks.check(names == ["libjinthuol.a", "libjinthuol.so"], "imports", f"left over: {names}")
+    elsewhere = folder / "elsewhere"
+    elsewhere.mkdir()
+    copy = pathlib.Path(shutil.copy(MODULE, elsewhere))
+    imports("a copy of the module", module=copy, library=place, cwd=folder)
+    fails("a copy without a library", "there is no", module=copy)
+    shared.unlink()
+    shared.mkdir()
+    fails("where it cannot be written", str(shared), library=place)
+
+
+def of_the_program(folder):
+    due = 0, EXAMPLE.with_suffix(".listing").read_text(), ""
+    for cwd in ROOT, folder, "/":
+        found = python(MODULE, EXAMPLE.with_suffix(".script"), cwd=cwd)
+        checks.check(found == due, "runs", f"in {cwd}: {found}")
+    for arguments in [], [1, 2], ["--help"], [folder / "nothing"], [folder]:
+        status, stdout, stderr = found = python(MODULE, *arguments)
+        ok = status == 2 and stdout == "" and stderr.count("\n") == 1 and "Traceback" not in stderr
+        checks.check(ok, "runs", f"{arguments}: {found}")
+
+
+# What it adds to the answers.
+
+
+def of_floats(module, rng):
+    """The fraction of a scaled number, and the floats beside it."""
+    mantissas = 1 << 31, (1 << 31) + 1, (1 << 32) - 1, 3 << 30
+    exponents = *range(-1107, -1070), -33, 0, *range(990, 995)
+    numbers = [(0, 0), *itertools.product(mantissas, exponents)]
+    for least, most in (-1110, -1040), (-200, 200):
+        numbers += [(rng.randrange(1 << 31, 1 << 32), rng.randrange(least, most)) for _ in range(1000)]
+    for m, e in numbers:
+        x, exact = module.Scaled(m, e), scaled.value(scaled.Scaled(m, e))
+        down, up = x.float_down(), x.float_up()
+        ok = x.fraction == exact and is_next(down, exact, False) and is_next(up, exact, True)
+        ok = ok and (down == up) == (exact <= Fraction(sys.float_info.max) and Fraction(down) == exact)
+        checks.check(ok, "floats", f"{m} {e}: {down} {up}")
+    # So far out that no fraction is formed.
+    for e, due in (-(1 << 31), (0.0, 5e-324)), ((1 << 31) - 1, (sys.float_info.max, math.inf)):
+        x = module.Scaled(1 << 31, e)
+        checks.check((x.float_down(), x.float_up()) == due, "floats", f"2^31 × 2^{e}")
+
+
+def is_next(x, exact, up):
+    """Whether x is the float on this side of the fraction with none between."""
+    sign, away = (1, -math.inf) if up else (-1, math.inf)
+    value = lambda y: Fraction(y) if math.isfinite(y) else None
+    here, nearer = value(x), value(math.nextafter(x, away))
+    on_its_side = x == math.inf if here is None else sign * here >= sign * exact
+    return on_its_side and (nearer is None or sign * nearer < sign * exact or here == exact)
+
+
+def of_answers(module):
+    session, wrong, test_1 = module.Session.empty(), (0, 1, 1, 0, 0), (500, 5000, 100, 1000, 0)
+    for answer, due in (
+        (session.read(), "refused 21: add or read with no encounter begun"),
+        (session.begin(module.Encounter(*wrong)), "refused 3: R is 0 or above 10,000,000"),
+        (session.begin(module.Encounter(*test_1)), "N = 1"),
+        (session.add(54), "N = 55"),
+        (session.read(), "N = 55: 2627622691 × 2^-35 to 2627623074 × 2^-35, alert"),
+    ):
+        checks.check(str(answer) == due, "answers", f"printed: {answer}, due: {due}")
+    answer = session.read()
+    ends = "lower=Scaled(m=2627622691, e=-35), upper=Scaled(m=2627623074, e=-35)"
+    checks.check(repr(answer) == f"Answer(refusal=0, N=55, {ends}, class_=1)", "answers", f"repr: {answer!r}")
+    checks.check(answer == session.read() and answer != session.add(0), "answers", "equal answers")
+    floats = answer.lower.m * 2.0**-35, answer.upper.m * 2.0**-35
+    checks.check(answer.floats == floats, "answers", f"floats: {answer.floats}")
+    checks.check(module.REFUSALS == REFUSALS, "answers", "texts of the refusals")
+    for number in REFUSALS:
+        printed = str(module.Answer(refusal=number))
+        checks.check(printed == f"refused {number}: {REFUSALS[number]}", "answers", printed)
+    checks.check(str(module.Scaled(0, 0)) == "0", "answers", "zero")
+
+
+def main():
+    arguments = options.parser("Tries bindings/python/jinthuol.py.").parse_args()
+    if not LIBRARY.is_file():
+        sys.exit("importing: no library; `rt staticlib jinthuol` writes it")
+    # The module says where it looks otherwise.
+    os.environ.pop("JINTHUOL_LIB_DIR", None)
+    for part in of_wrong_libraries, of_linking, of_the_program:
+        with tempfile.TemporaryDirectory() as folder:
+            part(pathlib.Path(folder).resolve())
+    sys.path.insert(0, str(MODULE.parent))
+    module = importlib.import_module("jinthuol")
+    of_floats(module, random.Random(arguments.seed))
+    of_answers(module)
+    checks.end()
+
+
+if __name__ == "__main__":
+    main()

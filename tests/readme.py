@@ -1,0 +1,65 @@
+#!/usr/bin/env python3
+"""Runs the commands of README.md as they stand there, and compares what they print with README and the examples.
+
+    python3 tests/readme.py
+
+After `rt check screen` and `rt staticlib jinthuol`. What is built goes to target/. Exits with 1 where anything differs.
+"""
+
+import doctest
+import subprocess
+import sys
+
+sys.dont_write_bytecode = True
+import options
+from checks import Checks
+from markdown import blocks, section
+from options import ROOT
+
+# Seconds for one command.
+LONGEST_RUN = 120
+LISTING = (ROOT / "examples/test-1.listing").read_text().splitlines()
+
+checks = Checks("readme")
+
+
+def prints(command, due):
+    """The command, in the repository's folder, prints these lines; on standard error only cargo says something."""
+    ended = subprocess.run(command, shell=True, cwd=ROOT, capture_output=True, text=True, timeout=LONGEST_RUN)
+    quiet = ended.stderr == "" or command.startswith("cargo ")
+    ok = ended.returncode == 0 and quiet and ended.stdout.splitlines() == due
+    checks.check(ok, "commands", f"{command}\n  found: {ended.returncode} {ended.stdout}{ended.stderr}\n    due: {due}")
+
+
+def main():
+    options.parser("Runs the commands of README.md.").parse_args()
+    [command], listing = blocks(section("First command"))
+    prints(command, listing)
+    line, [command] = blocks(section("A line of a listing"))
+    prints(command, [repr(int(line[0].split()[3]) * 2.0 ** int(line[0].split()[4]))])
+    _, [command], listing = blocks(section("A script, byte by byte"))
+    prints(command, listing)
+    [archive, *compilers, command], due = blocks(section("From C and C++"))
+    checks.check(archive == "rt staticlib jinthuol", "commands", f"the library: {archive}")
+    for compiler in compilers:
+        prints(compiler, [])
+        program = compiler.split()[-1]
+        prints(command.replace("target/example", program), due)
+    [[command]] = blocks(section("From Rust"))
+    prints(command, LISTING)
+    [command, interpreter], example = blocks(section("From Python"))
+    prints(command, LISTING)
+    checks.check(interpreter == "PYTHONPATH=bindings/python python3", "commands", f"the interpreter: {interpreter}")
+    sys.path.insert(0, str(ROOT / "bindings/python"))
+    test = doctest.DocTestParser().get_doctest("\n".join(example) + "\n", {}, "README.md", None, 0)
+    runner = doctest.DocTestRunner()
+    runner.run(test)
+    checks.check(runner.tries > 3 and runner.failures == 0, "commands", "the example in Python")
+    import jinthuol
+
+    checks.check(doctest.testmod(jinthuol).failed == 0, "commands", "the example of the module")
+    checks.end()
+
+
+if __name__ == "__main__":
+    main()

@@ -1,0 +1,260 @@
+#!/usr/bin/env python3
+"""Holds what is written in several places to document 01 and to the listings.
+
+    python3 tests/texts.py
+
+The table of refusals in the definitions, README.md, docs/READING.md, the header, the C example, Rust and Python; the
+session's size and the version in each language; the tables of examples/*.md, whose decimals are those of the listings,
+and the orders that their texts give; the listing, the bytes and the decimals of README.md; the titles of the documents
+that are cited. Exits with 1 where anything differs.
+"""
+
+import re
+import sys
+from fractions import Fraction
+
+sys.dont_write_bytecode = True
+import brackets
+import edges
+import fields
+import options
+import orders
+import records
+import scaled
+from checks import Checks
+from exact_series import Encounter
+from markdown import README, blocks, section
+from options import ROOT
+from reference import REFUSALS, Session
+
+EXAMPLES = ROOT / "examples"
+
+checks = Checks("texts")
+
+
+def same(kind, what, found, due):
+    checks.check(found == due, kind, f"{what}\n  found: {found}\n    due: {due}")
+
+
+def found_in(path, pattern):
+    return re.findall(pattern, (ROOT / path).read_text(), re.M)
+
+
+# The tables of refusals.
+
+ALL = list(REFUSALS)
+OF_CALLS = sorted({refusal for _, refusal in edges.ANSWERS if refusal})
+# Where a table stands, how a row of it looks, and the numbers that it has, in their order.
+TABLES = (
+    ("README.md", r"^\| (\d+) \| (.*?) \| \D.*\|.*\|$", ALL),
+    ("docs/READING.md", r"^\| (\d+): (.*?) \|", ALL),
+    ("bindings/c/jinthuol.h", r"^ \* +(\d+)  (.*?) +\(", ALL),
+    ("bindings/c/example.c", r'case (\d+):\s+return "(.*)";', OF_CALLS),
+    ("bindings/rust/src/refusal.rs", r'^ +(\d+) => "(.*)",$', sorted(ALL)),
+    ("bindings/python/jinthuol.py", r'^ +(\d+): "(.*)",$', sorted(ALL)),
+    ("crates/exact/specs/Refusals.antt", r"^ *-- (\d+): (.*?)(?:;.*)?$", ALL),
+)
+
+
+def of_refusals():
+    for path, row, numbers in TABLES:
+        # C has no other minus; the paper says of 8 when it is tested.
+        due = [(number, REFUSALS[number].replace("−", "-")) for number in numbers]
+        rows = found_in(path, row)
+        found = [(int(n), text.replace("−", "-").removesuffix(" (program only, before all else)")) for n, text in rows]
+        same("refusals", path, found, due)
+
+
+# The session's size and the version.
+
+SIZES = (
+    ("README.md", r"A session is (\d+) words"),
+    ("bindings/c/jinthuol.h", r"words\[(\d+)\]"),
+    ("bindings/rust/src/session.rs", r"words: \[u32; (\d+)\]"),
+    ("bindings/rust/src/lib.rs", r"words: \[0; (\d+)\]"),
+    ("bindings/python/jinthuol.py", r"c_uint32 \* (\d+)"),
+)
+VERSIONS = (
+    ("crates/jinthuol/specs/Version.antt", r"^version = (\d+)$"),
+    ("crates/jinthuol/src/lib.rt", r"VERSION: u32 = (\d+);"),
+    ("bindings/c/jinthuol.h", r"#define JINTHUOL_VERSION (\d+)$"),
+    ("bindings/rust/src/lib.rs", r"VERSION: u32 = (\d+);"),
+    ("bindings/python/jinthuol.py", r"^VERSION = (\d+)$"),
+)
+
+
+def of_bindings():
+    for path, number in SIZES:
+        same("sizes", f"the session's words in {path}", found_in(path, number), [str(len(fields.SESSION))])
+    versions = {path: found_in(path, number) for path, number in VERSIONS}
+    first = versions[VERSIONS[0][0]]
+    for path, found in versions.items():
+        same("versions", path, found, first)
+    checks.check(len(first) == 1, "versions", "there is one version")
+
+
+# Decimals.
+
+
+def decimal(up, end, digits=8):
+    """An end in digits, rounded down or up, as d.ddde±kk."""
+    q = scaled.value(scaled.Scaled(*end))
+    k = len(str(q.numerator)) - len(str(q.denominator))
+    # q × 10^-k is from 1/10 to 10; it is to be from 1 to 10.
+    k -= q < Fraction(10) ** k
+    whole = q * Fraction(10) ** (digits - 1 - k)
+    n = -(-whole.numerator // whole.denominator) if up else whole.numerator // whole.denominator
+    if n == 10**digits:
+        n, k = n // 10, k + 1
+    text = str(n)
+    return f"{text[0]}.{text[1:]}e{'-' if k < 0 else '+'}{abs(k):02}"
+
+
+def of_decimals():
+    for m, e, digits, down, up in (
+        (1 << 31, -31, 8, "1.0000000e+00", "1.0000000e+00"),
+        ((1 << 32) - 1, -32, 8, "9.9999999e-01", "1.0000000e+00"),
+        ((1 << 31) + 1, -31, 3, "1.00e+00", "1.01e+00"),
+        (2640538691, 133, 2, "2.8e+49", "2.9e+49"),
+        (2147483648, -34, 8, "1.2500000e-01", "1.2500000e-01"),
+    ):
+        same("decimals", f"{m} {e}", [decimal(False, (m, e), digits), decimal(True, (m, e), digits)], [down, up])
+
+
+# The examples.
+
+
+def said(record):
+    """A record in the words of the table."""
+    if record.refusal:
+        return None
+    inputs = ", ".join(map(str, record.inputs))
+    return {"begin": f"begin ({inputs})", "add": f"add {inputs}", "read": "read"}[record.kind.call]
+
+
+def rows(script, listing):
+    """The rows of the table: offset, record, order and answer of each line of the listing."""
+    order = "none"
+    for record, line in zip(records.records(script), listing.splitlines(), strict=True):
+        answer = records.printed(line)
+        word = line.split()[1]
+        if answer.refusal:
+            said_of_it = f"refused {answer.refusal}"
+        elif word == "read":
+            said_of_it = f"{decimal(False, answer.lower)} to {decimal(True, answer.upper)}, {answer.class_name}"
+        else:
+            order, said_of_it = answer.N, word
+        text = said(record) or f"a byte {script[record.position]}"
+        yield f"| {line.split()[0]} | {text} | {order} | {said_of_it} |"
+
+
+def of_examples():
+    stems = sorted(path.stem for path in EXAMPLES.glob("*.md"))
+    same("examples", "texts", stems, sorted(path.stem for path in EXAMPLES.glob("*.script")))
+    closed = 0
+    for stem in stems:
+        text = (EXAMPLES / f"{stem}.md").read_text()
+        script, listing = (EXAMPLES / f"{stem}.script").read_bytes(), (EXAMPLES / f"{stem}.listing").read_text()
+        due = ["| Offset | Record | Order N | Answer |", "|---|---|---|---|", *rows(script, listing)]
+        same("examples", stem, [line for line in text.splitlines() if line.startswith("|")], due)
+        closed += of_orders(stem, text, script)
+        of_titles(f"examples/{stem}.md", text)
+    checks.check(closed > 4, "examples", f"orders from which a bracket is close: {closed}")
+
+
+def of_orders(stem, text, script):
+    """'From N on the tail bound is at most 2^-31': N is the least such order of an encounter of the script."""
+    begins = [record.inputs for record in records.records(script) if len(record.inputs) == 5]
+    begun = [Encounter(*inputs) for inputs in begins if Session().begin(*inputs).refusal == 0]
+    found = [int(N) for N in re.findall(r"From (\d+) (?:terms )?on the tail bound is at most 2\^-31", text)]
+    for N in found:
+        closes = [[brackets.is_close(orders.at_order(E, n)) for n in (N - 1, N)] for E in begun]
+        checks.check([False, True] in closes, "examples", f"{stem}: from {N} on")
+    return len(found)
+
+
+# README.
+
+
+def of_readme():
+    test_1 = (EXAMPLES / "test-1.listing").read_text().splitlines()
+    script = (EXAMPLES / "test-1.script").read_bytes()
+    same("README", "the listing", blocks(section("First command"))[1], test_1)
+    line = blocks(section("A line of a listing"))[0]
+    checks.check(len(line) == 1 and line[0] in test_1, "README", f"the line: {line}")
+    answer = records.printed(line[0])
+    for part in f"`{line[0].split()[0]}`", f"`{answer.N}`", *(f"`{m} {e}`" for m, e in (answer.lower, answer.upper)):
+        checks.check(f"| {part} |" in README, "README", f"the field {part}")
+    bytes_ = blocks(section("A script, byte by byte"))[0][0]
+    same("README", "the bytes", bytes_.split(), script[:21].hex(" ").split())
+    checks.check(f"`{script[1:5].hex(' ')}` | R = 244 + 1 × 256 = 500" in README, "README", "the bytes of R")
+    for bytes_, what in (((-388) % (1 << 32)).to_bytes(4, "little"), "-388"), (records.add(54), "add 54"):
+        checks.check(f"`{bytes_.hex(' ')}`" in README, "README", f"the bytes of {what}")
+    # Decimals of the reads that its text speaks of, outward.
+    listings = {stem: (EXAMPLES / f"{stem}.listing").read_text() for stem in ("test-1", "alfano-3")}
+    for stem, N, digits, text in (
+        ("test-1", 55, 8, "from {} to {}, so its first digits are 0.0764738,"),
+        ("test-1", 36, 7, "Test 1 has {} to {} at N = 36"),
+        ("test-1", 55, 8, "and {} to {} at N = 55"),
+    ):
+        lower, upper = ends(listings[stem], N)
+        decimals = decimal(False, lower, digits), decimal(True, upper, digits)
+        written = [f"{float(text):.{digits + 1}f}" for text in decimals]
+        checks.check(text.format(*written) in README, "README", f"{stem} at {N}: {written}")
+    _, upper = ends(listings["alfano-3"], 597)
+    same("README", "Alfano 3 at 597", (decimal(True, upper, 2), "2.9 × 10^49 at N = 597" in README), ("2.9e+49", True))
+    _, upper = ends(listings["alfano-3"], 765)
+    found = decimal(True, upper), "and 0.10040417 at N = 765" in README
+    same("README", "Alfano 3 at 765", found, ("1.0040417e-01", True))
+    # The limit of test 7, on each side.
+    for R, refusal, text in (1131, 0, "11.31² = 127.9561"), (1132, 7, "11.32² = 128.1824"):
+        squares = Fraction(1000, 5000) ** 2 + Fraction(R, 100) ** 2
+        checks.check(text.endswith(str(float(squares))) and text in README, "README", f"the squares of R = {R}")
+        same("README", f"the refusal of R = {R}", Session().begin(R, 5000, 100, 1000, 0).refusal, refusal)
+    of_titles("README.md", README)
+
+
+def ends(listing, N):
+    """Both ends of the read at order N."""
+    answer = next(a for a in map(records.printed, listing.splitlines()) if a.N == N and a.lower != scaled.ZERO)
+    return answer.lower, answer.upper
+
+
+# The documents.
+
+TITLES = {
+    "000": "Rounding Error Analysis of an Orbital Collision Probability Evaluation Algorithm",
+    "001": "A Power Series Expansion based Method to compute the Probability of Collision for Short-term Space"
+    " Encounters",
+    "003": "talk on document 000",
+    "01": "Short-encounter collision probability, bracketed",
+    "02": "More changes customers want",
+}
+# Document 01 says that they are unused.
+UNUSED = {"002", "004"}
+
+
+def of_titles(path, text):
+    """Each document that a text cites by its number has its title there."""
+    cited = set()
+    for numbers in re.findall(r"\b[Dd]ocuments? (\d+(?:(?:,| and|, and) \d+)*)", text):
+        cited |= set(re.findall(r"\d+", numbers))
+    for number in sorted(cited - UNUSED):
+        checks.check(number in TITLES and TITLES[number] in text, "titles", f"{path} cites document {number}")
+    checks.check(bool(cited), "titles", f"{path} cites no document")
+
+
+def main():
+    options.parser("Holds texts to document 01 and to the listings.").parse_args()
+    of_refusals()
+    of_bindings()
+    of_decimals()
+    of_examples()
+    of_readme()
+    for path in "docs/READING.md", "docs/DECISIONS.md":
+        of_titles(path, (ROOT / path).read_text())
+    checks.end()
+
+
+if __name__ == "__main__":
+    main()
