@@ -31,6 +31,16 @@ def prints(command, due):
     checks.check(ok, "commands", f"{command}\n  found: {ended.returncode} {ended.stdout}{ended.stderr}\n    due: {due}")
 
 
+def of_c(lines):
+    """The lines of C, in a program of their own."""
+    header, *code = lines
+    source, program = ROOT / "target/readme.c", ROOT / "target/readme"
+    source.write_text("\n".join(["#include <math.h>", "#include <stdio.h>", header, "int main(void) {", *code, "}"]))
+    compiler = "gcc -std=c99 -Wall -Wextra -Werror -I bindings/c target/readme.c target/staticlib/libjinthuol.a -lm"
+    prints(f"{compiler} -o {program}", [])
+    prints(str(program), ["at least 0.076473885303130373"])
+
+
 def main():
     options.parser("Runs the commands of README.md.").parse_args()
     [command], listing = blocks(section("First command"))
@@ -39,12 +49,15 @@ def main():
     prints(command, [repr(int(line[0].split()[3]) * 2.0 ** int(line[0].split()[4]))])
     _, [command], listing = blocks(section("A script, byte by byte"))
     prints(command, listing)
-    [archive, *compilers, command], due = blocks(section("From C and C++"))
+    [archive, *compilers, command], due, [header], code = blocks(section("From C and C++"))
     checks.check(archive == "rt staticlib jinthuol", "commands", f"the library: {archive}")
-    for compiler in compilers:
+    programs = [compiler.split()[-1] for compiler in compilers]
+    for program, compiler in zip(programs, compilers):
+        (ROOT / program).unlink(missing_ok=True)
         prints(compiler, [])
-        program = compiler.split()[-1]
-        prints(command.replace("target/example", program), due)
+        prints(command.replace(programs[0], program), due)
+    checks.check(command.endswith(programs[0]) and len(set(programs)) == 2, "commands", f"the programs: {programs}")
+    of_c([header, *code])
     [[command]] = blocks(section("From Rust"))
     prints(command, LISTING)
     [command, interpreter], example = blocks(section("From Python"))

@@ -9,6 +9,7 @@ and the orders that their texts give; the listing, the bytes and the decimals of
 that are cited. Exits with 1 where anything differs.
 """
 
+import math
 import re
 import sys
 from fractions import Fraction
@@ -25,7 +26,7 @@ from checks import Checks
 from exact_series import Encounter
 from markdown import README, blocks, section
 from options import ROOT
-from reference import REFUSALS, Session
+from reference import LARGEST_N, REFUSALS, Session
 
 EXAMPLES = ROOT / "examples"
 
@@ -211,6 +212,11 @@ def of_readme():
         squares = Fraction(1000, 5000) ** 2 + Fraction(R, 100) ** 2
         checks.check(text.endswith(str(float(squares))) and text in README, "README", f"the squares of R = {R}")
         same("README", f"the refusal of R = {R}", Session().begin(R, 5000, 100, 1000, 0).refusal, refusal)
+    # 3M + 13 terms are enough: 2M ≤ N + 2, and 2 × M^N/(N+1)! ≤ 2^-32, which leaves a factor of two for the roundings.
+    checks.check("An N of 3M + 13 or more is enough" in README, "README", "3M + 13")
+    for N in (*range(14, 400), *range(400, LARGEST_N, 97)):
+        ok = 2 * (N - 13) <= 3 * (N + 2) and (N - 13) ** N << 33 <= 3**N * math.factorial(N + 1)
+        checks.check(ok, "orders", f"N = {N} for M = {N - 13}/3")
     of_titles("README.md", README)
 
 

@@ -131,12 +131,14 @@ def of_failures(folder):
 
 # The build, on a copy.
 
-# Says what it was asked, and 'builds' the program by copying it.
+# Says what it was asked, and 'builds' the program by copying it, where it is not there.
 TOOLCHAIN = f"""#!/bin/sh
 echo "$*" >>asked
 echo "words of the toolchain"
 test -e fails && exit 1
-test "$2" != screen || {{ mkdir -p target/bin && {shutil.which("cp")} "{PROGRAM}" target/bin/screen; }}
+test "$2" != screen && exit
+mkdir -p target/bin
+test -e target/bin/screen || {shutil.which("cp")} "{PROGRAM}" target/bin/screen
 """
 
 
@@ -197,6 +199,7 @@ def of_build(folder):
         checks.check("run as it is" in stderr, "runs", f"an older program: {stderr}")
         os.utime(copy / changed)
         expect(f"{changed} is newer", (screen(with_rt)[:2], len(asked(copy))), ((0, LISTING), len(crates)))
+        expect(f"{changed} is newer no more", (screen(with_rt), asked(copy)), (WHOLE, []))
     os.utime(copy / "crates/customer/src/lib.rt")
     expect("another crate is newer", (screen(with_rt), asked(copy)), (WHOLE, []))
     (copy / "crates/listing/specs/Put.antt").unlink()
