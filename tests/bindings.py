@@ -112,6 +112,14 @@ def called(R, sx, sy, xm, ym, N):
     yield "read", session.read()
 
 
+def fails(what, program, **given):
+    """The program ends with status 1 and a line on standard error."""
+    given.setdefault("stdout", subprocess.DEVNULL)
+    ended = subprocess.run([program], stderr=subprocess.PIPE, timeout=LONGEST_RUN, **given)
+    if ended.returncode != 1 or ended.stderr.count(b"\n") != 1:
+        differs(what, f"{ended.returncode}, {ended.stderr}", "1, a line on standard error")
+
+
 def of_c(rng, library):
     """Gives how many encounters were compared."""
     programs = {}
@@ -136,6 +144,10 @@ def of_c(rng, library):
         for printed, (case, call, answer) in zip(found, due):
             if printed != line(call, answer):
                 differs(f"by {compiler}, {call} of {case}", printed, line(call, answer))
+        for wrong in "8 1 1 8 0", "8 1 1 8 0 0", "4294967296 1 1 0 0 1", "8 1 1 2147483648 0 1", "R":
+            fails(f"{compiler}, {wrong}", program, input=wrong.encode())
+        with open("/dev/full", "wb") as full:
+            fails(f"{compiler}, a full device", program, input=b"8 1 1 8 0 1", stdout=full)
     return len(tried)
 
 
@@ -212,7 +224,28 @@ def of_rust():
     passed = sum(map(int, re.findall(r"^test result: ok\. (\d+) passed; 0 failed; 0 ignored", said, re.M)))
     if not passed:
         sys.exit(f"bindings: no tests in bindings/rust\n{said}")
+    of_another_version()
     return passed, BUILT / "rust/release/examples/screen"
+
+
+FUNCTIONS = ("empty", "begin", "add", "read", "run")
+
+
+def of_another_version():
+    """With a library of another version the crate calls none of its other functions."""
+    folder = BUILT / "another"
+    folder.mkdir(exist_ok=True)
+    calls = "".join(f"void jinthuol_{name}(void) {{ _exit(0); }}\n" for name in FUNCTIONS)
+    (folder / "own.c").write_text("#include <unistd.h>\nunsigned jinthuol_version(void) { return 99; }\n" + calls)
+    output(["gcc", "-c", folder / "own.c", "-o", folder / "own.o"])
+    output(["ar", "rc", folder / "libjinthuol.a", folder / "own.o"])
+    environment = {**os.environ, "JINTHUOL_LIB_DIR": str(folder), "CARGO_TARGET_DIR": str(folder / "rust")}
+    for command in ["run", "--example", "screen", EXAMPLES[0]], ["test", "--test", "calls", "brackets"]:
+        command = ["cargo", command[0], "--offline", "--locked", *map(str, command[1:])]
+        ended = subprocess.run(command, cwd=BINDINGS / "rust", env=environment, capture_output=True, timeout=LONGEST_RUN)
+        said = (ended.stdout + ended.stderr).decode()
+        if ended.returncode != 101 or "of another version" not in said:
+            differs(f"another version, {command}", f"{ended.returncode}: {said}", "101, of another version")
 
 
 def main():

@@ -103,7 +103,8 @@ def of_linking(folder):
     place.mkdir()
     shutil.copy(LIBRARY, place)
     shared = place / "libjinthuol.so"
-    fails("no gcc", "there is no gcc", library=place, env=NO_GCC)
+    fails("no gcc", "gcc has to link", library=place, env=NO_GCC)
+    checks.check(not shared.exists(), "imports", "a shared object without gcc")
     imports("first", library=place)
     made = shared.stat()
     imports("again, without gcc", library=place, env=NO_GCC)
@@ -113,7 +114,7 @@ def of_linking(folder):
     for seconds in 5, -5:
         time = LIBRARY.stat().st_mtime + seconds
         os.utime(place / "libjinthuol.a", (time, time))
-        fails("another library, no gcc", "there is no gcc", library=place, env=NO_GCC)
+        fails("another library, no gcc", "gcc has to link", library=place, env=NO_GCC)
         imports("another library", library=place)
         checks.check(shared.stat().st_ino != made.st_ino, "imports", "not made again")
         made = shared.stat()
@@ -126,7 +127,10 @@ def of_linking(folder):
     fails("a copy without a library", "there is no", module=copy)
     shared.unlink()
     shared.mkdir()
-    fails("where it cannot be written", str(shared), library=place)
+    fails("where it cannot be written", "cannot be used", str(shared), library=place)
+    names = sorted(path.name for path in place.iterdir())
+    checks.check(names == ["libjinthuol.a", "libjinthuol.so"], "imports", f"left over: {names}")
+    fails("a name that is too long", "cannot be used", library="x" * 5000)
 
 
 def of_the_program(folder):
@@ -134,10 +138,20 @@ def of_the_program(folder):
     for cwd in ROOT, folder, "/":
         found = python(MODULE, EXAMPLE.with_suffix(".script"), cwd=cwd)
         checks.check(found == due, "runs", f"in {cwd}: {found}")
-    for arguments in [], [1, 2], ["--help"], [folder / "nothing"], [folder]:
-        status, stdout, stderr = found = python(MODULE, *arguments)
-        ok = status == 2 and stdout == "" and stderr.count("\n") == 1 and "Traceback" not in stderr
-        checks.check(ok, "runs", f"{arguments}: {found}")
+    for arguments in [], [1, 2], ["--help"], [folder / "nothing"], [folder], [""]:
+        one_line(arguments, python(MODULE, *arguments), 2)
+    # Standard output that cannot be written.
+    for to in "> /dev/full", ">&-":
+        command = f"exec '{sys.executable}' '{MODULE}' '{EXAMPLE}.script' {to}"
+        ended = subprocess.run(["sh", "-c", command], capture_output=True, text=True, timeout=LONGEST_RUN)
+        one_line(to, (ended.returncode, ended.stdout, ended.stderr), 1)
+
+
+def one_line(what, found, status):
+    """The program ends with this status and one line on standard error."""
+    ended, stdout, stderr = found
+    ok = ended == status and stdout == "" and stderr.count("\n") == 1 and "Traceback" not in stderr
+    checks.check(ok, "runs", f"{what}: {found}")
 
 
 # What it adds to the answers.
@@ -192,6 +206,24 @@ def of_answers(module):
         printed = str(module.Answer(refusal=number))
         checks.check(printed == f"refused {number}: {REFUSALS[number]}", "answers", printed)
     checks.check(str(module.Scaled(0, 0)) == "0", "answers", "zero")
+    kept = module.Session.empty().kept, module.Session.empty().kept
+    checks.check(kept[0] == kept[1] and kept[0] != session.kept, "answers", "equal sessions")
+    # An answer without ends has no class and no floats.
+    for answer in session.add(0), module.Session.empty().read():
+        for property_ in "class_name", "floats":
+            try:
+                checks.check(False, "answers", f"{property_} of {answer!r}: {getattr(answer, property_)}")
+            except ValueError as error:
+                checks.check(str(answer) in str(error), "answers", f"{error}")
+    script = EXAMPLE.with_suffix(".script").read_bytes()
+    listing = EXAMPLE.with_suffix(".listing").read_bytes()
+    for given in script, bytearray(script), memoryview(script):
+        checks.check(module.run(given) == listing, "answers", f"the listing of {type(given)}")
+    for given in "text", 7, None:
+        try:
+            checks.check(False, "answers", f"the listing of {given!r}: {module.run(given)}")
+        except TypeError:
+            pass
 
 
 def main():

@@ -38,7 +38,7 @@ def of_c(lines):
     source.write_text("\n".join(["#include <math.h>", "#include <stdio.h>", header, "int main(void) {", *code, "}"]))
     compiler = "gcc -std=c99 -Wall -Wextra -Werror -I bindings/c target/readme.c target/staticlib/libjinthuol.a -lm"
     prints(f"{compiler} -o {program}", [])
-    prints(str(program), ["at least 0.076473885303130373"])
+    prints(str(program), ["about 0.0764738853 to 0.0764738964, alert"])
 
 
 def main():

@@ -213,10 +213,16 @@ def of_readme():
         checks.check(text.endswith(str(float(squares))) and text in README, "README", f"the squares of R = {R}")
         same("README", f"the refusal of R = {R}", Session().begin(R, 5000, 100, 1000, 0).refusal, refusal)
     # 3M + 13 terms are enough: 2M ≤ N + 2, and 2 × M^N/(N+1)! ≤ 2^-32, which leaves a factor of two for the roundings.
-    checks.check("An N of 3M + 13 or more is enough" in README, "README", "3M + 13")
-    for N in (*range(14, 400), *range(400, LARGEST_N, 97)):
-        ok = 2 * (N - 13) <= 3 * (N + 2) and (N - 13) ** N << 33 <= 3**N * math.factorial(N + 1)
+    # The first order that is read is at least 2M − 2, so half as much again and 16 more are at least 3M + 13.
+    checks.check("From N = 3M + 13 on" in README, "README", "3M + 13")
+    factorial = math.factorial(14)
+    for N in range(14, LARGEST_N + 1):
+        factorial *= N + 1
+        ok = 2 * (N - 13) <= 3 * (N + 2) and (N - 13) ** N << 33 <= 3**N * factorial
         checks.check(ok, "orders", f"N = {N} for M = {N - 13}/3")
+    stuck = orders.at_order(Encounter(20, 10, 10, 0, 0), 2), orders.at_order(Encounter(20, 10, 10, 0, 0), 3)
+    text = "the upper end of (20, 10, 10, 0, 0) is the same at N = 2 and 3 and falls later"
+    checks.check(text in README and stuck[0].read().upper == stuck[1].read().upper, "README", text)
     of_titles("README.md", README)
 
 

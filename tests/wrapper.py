@@ -122,6 +122,8 @@ def of_failures(folder):
     directory = os.open(folder, os.O_RDONLY)
     refuses("standard input is a directory", run("-", stdin=directory), 1, "could not be read")
     os.close(directory)
+    closed = f"exec >&-; exec '{WRAPPER}' '{SCRIPT}'"
+    refuses("standard output is closed", run("-c", closed, wrapper="sh"), 1, "is closed")
     # A reader that is gone: the signal ends the program, and the status tells.
     ours, theirs = os.pipe()
     os.close(ours)
@@ -181,6 +183,9 @@ def of_build(folder):
 
     refuses("not built, no toolchain", screen(without), 1, "no toolchain")
     refuses("wrong use before a build", screen(with_rt, folder), 2, "directory")
+    (copy / "target").touch()
+    refuses("nowhere to build", screen(with_rt), 1, "cannot be written")
+    (copy / "target").unlink()
     expect("nothing was asked", asked(copy), [])
     crates = ["exact", "encounter", "listing", "screen"]
     status, stdout, stderr = screen(with_rt)
@@ -209,6 +214,10 @@ def of_build(folder):
     status, stdout, stderr = screen(with_rt)
     expect("a proof that fails", (status, stdout, asked(copy)), (1, "", ["check exact"]))
     checks.check("words of the toolchain\nscreen: exact was not proved" in stderr, "runs", f"a failed proof: {stderr}")
+    (copy / "fails").unlink()
+    (with_rt / "flock").unlink()
+    status, stdout, stderr = screen(with_rt)
+    expect("without flock", (status, stdout, stderr.splitlines()[1:]), (0, LISTING, due))
 
 
 def main():

@@ -1,11 +1,12 @@
-/* Brackets of encounters from standard input, a line each: R sx sy xm ym N. Begins the encounter, adds N - 1 terms, reads, and prints the three answers
- * in the words of a listing; after a read both ends once more as doubles, and with a refusal its condition.
+/* Brackets of encounters from standard input, six numbers each: R sx sy xm ym N. Begins the encounter, adds N - 1 terms, reads, and prints the three
+ * answers in the words of a listing; after a read both ends once more as doubles, and with a refusal its condition.
  *
  *     rt staticlib jinthuol
  *     gcc -std=c99 -I bindings/c bindings/c/example.c target/staticlib/libjinthuol.a -lm -o target/example
  *     echo 500 5000 100 1000 0 55 | target/example
  *
- * As C++: g++ -std=c++11 -x c++, the same files but `-x none` before the library. */
+ *
+ * As C++: g++ -std=c++11 -I bindings/c -x c++ bindings/c/example.c -x none target/staticlib/libjinthuol.a -o target/example-cpp */
 #include <inttypes.h>
 #include <math.h>
 #include <stdio.h>
@@ -37,7 +38,7 @@ static const char *condition(uint32_t refusal)
     }
 }
 
-/* An end as a double, with 17 digits, which tell one double from every other. m has 32 bits and a double 53, so it is exact wherever e fits. */
+/* An end as a double: exact wherever e fits, since m has 32 bits and a double 53. Its 17 digits, rounded to the nearest, tell it from every other. */
 static void print_double(jinthuol_scaled end)
 {
     if (end.e < -1074 || end.e > 992) {
@@ -100,8 +101,12 @@ int main(void)
         print_order("added", jinthuol_add(&session, (uint16_t)(N - 1)));
         print_read(jinthuol_read(session));
     }
-    if (found != EOF) {
-        fprintf(stderr, "not R sx sy xm ym N: a number is missing or does not fit its type\n");
+    if (found != EOF || ferror(stdin)) {
+        fprintf(stderr, "not R sx sy xm ym N: a number is missing or out of range\n");
+        return 1;
+    }
+    if (fflush(stdout) != 0 || ferror(stdout)) {
+        fprintf(stderr, "not all was written\n");
         return 1;
     }
     return 0;

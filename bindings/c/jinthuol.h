@@ -23,7 +23,7 @@
  *     22  add: N + count above 4,096                       (add)
  *     23  read: 2M above N + 2                             (read)
  *
- * 7 in plain words: (xm/sx)^2 + (ym/sy)^2 + (R/sy)^2 is above 128, which is 2t; it is tested with t rounded up. 23: too few terms are added for the bound of
+ * 7 in plain words: (xm/sx)^2 + (ym/sy)^2 + (R/sy)^2, which is 2t, is above 128; t is rounded up first. 23: too few terms are added for the bound of
  * those left out; a read needs N of at least 2M - 2. README.md has examples.
  *
  * What a caller sees to. No pointer may be null, also where its length is 0. C converts a number to the type of its parameter or field without a word:
@@ -67,7 +67,7 @@ typedef struct {
     uint32_t words[56];
 } jinthuol_session;
 
-/* The class, by the lower end: alert where it is at least 1/10,000. */
+/* The class, by the lower end: alert where it is at least 1/10,000. Clear says only that the lower end is below it; the upper end may be above. */
 enum { JINTHUOL_CLEAR = 0, JINTHUOL_ALERT = 1 };
 
 /* The refusal's number, or 0; then the order N, both ends and the class. A refusal has zero in every other field; an accepted begin or add has
@@ -98,8 +98,8 @@ jinthuol_answer jinthuol_begin(jinthuol_session *session, jinthuol_encounter enc
 /* Adds count terms. Refused as 21 or 22, and then the session is as it was. */
 jinthuol_answer jinthuol_add(jinthuol_session *session, uint16_t count);
 
-/* The bracket at the session's order. Refused as 21 or 23. The upper end may be above 1 at the first orders that are read: it has the bound of all terms
- * not yet added in it, and falls as terms are added. */
+/* The bracket at the session's order. Refused as 21 or 23. The upper end has the bound of all terms not yet added in it, so at the first orders that are
+ * read it may be far off, and above 1; README.md has how many terms are enough. Where the probability is next to 1, rounding may leave it above 1. */
 jinthuol_answer jinthuol_read(jinthuol_session session);
 
 /* The listing of a script of begin, add and read records, on a session of its own; `0 refused 8` where the script has more than 65,536 bytes.

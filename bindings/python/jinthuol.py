@@ -75,7 +75,8 @@ class Struct(ctypes.Structure):
     """A struct of the library. Two are equal where all their fields are."""
 
     def values(self):
-        return [getattr(self, name) for name, _ in self._fields_]
+        found = [getattr(self, name) for name, _ in self._fields_]
+        return [list(value) if isinstance(value, ctypes.Array) else value for value in found]
 
     def __eq__(self, other):
         return self.values() == other.values() if type(other) is type(self) else NotImplemented
@@ -127,25 +128,36 @@ class Scaled(Struct):
 class Answer(Struct):
     """The refusal's number, or 0; then the order N, both ends and the class (0 clear, 1 alert).
 
-    The ends and the class are those of a read; begin and add have zero there.
+    Only a read that is not refused has ends and a class: begin, add and every refusal have zero there.
     """
 
     _fields_ = [("refusal", c_uint32), ("N", c_uint32), ("lower", Scaled), ("upper", Scaled), ("class_", c_uint32)]
 
     @property
+    def has_ends(self):
+        """Whether it is the answer of a read that is not refused: only there the lower end is above 0."""
+        return self.lower.m > 0
+
+    @property
     def class_name(self):
+        """`clear` or `alert`. Raises ValueError where there are no ends."""
+        self.need_ends()
         return CLASSES[self.class_]
 
     @property
     def floats(self):
-        """Both ends, the lower one rounded down and the upper one up where it is no float."""
+        """Both ends: the floats that they are, or the next ones outward. Raises ValueError where there are no ends."""
+        self.need_ends()
         return self.lower.float_down(), self.upper.float_up()
+
+    def need_ends(self):
+        if not self.has_ends:
+            raise ValueError(f"no ends in this answer: {self}")
 
     def __str__(self):
         if self.refusal:
             return f"refused {self.refusal}: {REFUSALS[self.refusal]}"
-        # The lower end of a read is above 0.
-        ends = f": {self.lower} to {self.upper}, {self.class_name}" if self.lower.m else ""
+        ends = f": {self.lower} to {self.upper}, {self.class_name}" if self.has_ends else ""
         return f"N = {self.N}{ends}"
 
 
@@ -168,29 +180,33 @@ def linked(archive, shared):
         return
     # Another program may have the shared object open, or link it now: it is replaced whole.
     new = shared.with_suffix(f".{os.getpid()}")
+    command = ["gcc", "-shared", "-o", new, "-Wl,--whole-archive", archive, "-Wl,--no-whole-archive"]
     try:
-        command = ["gcc", "-shared", "-o", new, "-Wl,--whole-archive", archive, "-Wl,--no-whole-archive"]
-        subprocess.run(command, check=True, capture_output=True, text=True)
-        os.utime(new, ns=(built, built))
-        os.replace(new, shared)
-    except FileNotFoundError as error:
-        raise ImportError(f"gcc has to link {archive} into a shared object, and there is no gcc") from error
+        ended = subprocess.run(command, capture_output=True, text=True)
     except OSError as error:
-        raise ImportError(f"{shared} could not be written: {error.strerror}") from error
-    except subprocess.CalledProcessError as error:
-        raise ImportError(f"gcc could not link {archive} into {shared}: {error.stderr.strip()}") from error
-    finally:
-        new.unlink(missing_ok=True)
+        raise ImportError(f"gcc has to link {archive} into a shared object, and cannot be run: {error}") from error
+    if ended.returncode:
+        raise ImportError(f"gcc could not link {archive} into {shared}: {ended.stderr.strip()}")
+    os.utime(new, ns=(built, built))
+    try:
+        os.replace(new, shared)
+    except OSError:
+        new.unlink()
+        raise
 
 
 def load():
     here = pathlib.Path(__file__).resolve().parent
-    folder = pathlib.Path(os.environ.get("JINTHUOL_LIB_DIR") or here / "../../target/staticlib").resolve()
-    archive, shared = folder / "libjinthuol.a", folder / "libjinthuol.so"
+    folder = pathlib.Path(os.environ.get("JINTHUOL_LIB_DIR") or here / "../../target/staticlib")
     again = "run `rt staticlib jinthuol` in the folder of the repository"
-    if not archive.is_file():
-        raise ImportError(f"there is no {archive}: {again}, or set JINTHUOL_LIB_DIR to the folder that has it")
-    linked(archive, shared)
+    try:
+        archive = folder.resolve() / "libjinthuol.a"
+        shared = archive.with_suffix(".so")
+        if not archive.is_file():
+            raise ImportError(f"there is no {archive}: {again}, or set JINTHUOL_LIB_DIR to the folder that has it")
+        linked(archive, shared)
+    except OSError as error:
+        raise ImportError(f"the library in {folder} cannot be used: {error}") from error
     try:
         library = ctypes.CDLL(str(shared))
         version = library.jinthuol_version()
@@ -248,7 +264,9 @@ class Session:
 
 
 def run(script):
-    """The listing of a script. 100 bytes for each byte of the script are enough."""
+    """The listing of a script, both as bytes."""
+    script = memoryview(script).tobytes()
+    # 100 bytes for each byte of the script are enough.
     out = ctypes.create_string_buffer(100 * min(len(script), 65_536))
     listing = LIBRARY.jinthuol_run(script, len(script), out, len(out))
     if not listing.ended:
@@ -256,16 +274,25 @@ def run(script):
     return ctypes.string_at(out, listing.used)
 
 
+def ended(status, words):
+    """Ends the program with a line on standard error."""
+    print(words, file=sys.stderr)
+    sys.exit(status)
+
+
 def main():
     if len(sys.argv) != 2 or sys.argv[1].startswith("-"):
-        print("usage: python3 bindings/python/jinthuol.py SCRIPT", file=sys.stderr)
-        sys.exit(2)
+        ended(2, "usage: python3 bindings/python/jinthuol.py SCRIPT")
     try:
-        script = pathlib.Path(sys.argv[1]).read_bytes()
+        with open(sys.argv[1], "rb") as file:
+            script = file.read()
     except OSError as error:
-        print(f"jinthuol.py: {error.filename}: {error.strerror}", file=sys.stderr)
-        sys.exit(2)
-    sys.stdout.buffer.write(run(script))
+        ended(2, f"jinthuol.py: {sys.argv[1]}: {error.strerror}")
+    try:
+        with open(1, "wb", closefd=False) as out:
+            out.write(run(script))
+    except OSError as error:
+        ended(1, f"jinthuol.py: the listing could not be written: {error.strerror}")
 
 
 if __name__ == "__main__":

@@ -19,7 +19,8 @@ pub struct Answer {
     pub class: u32,
 }
 
-// `safe`: the types of these five say all that they trust. A reference is valid, and not shared while
+// `safe`: the types of these five say all that they trust, but that the library has this crate's
+// version, which `Session::empty` and `run_into` test first. A reference is valid, and not shared while
 // it is lent. A `Session` came from these calls, since nothing else writes its private field.
 unsafe extern "C" {
     /// Trusts nothing.

@@ -44,7 +44,13 @@ pub use session::{Encounter, Session};
 /// The version of the library's functions that this crate is for: JINTHUOL_VERSION of bindings/c/jinthuol.h.
 pub const VERSION: u32 = 1;
 
-/// The version of the library that this crate was linked with. Where it is not [`VERSION`], no other call may be made.
+/// The version of the library that this crate was linked with. Where it is not [`VERSION`], [`Session::empty`],
+/// [`run`] and [`run_into`] panic: the structs may be others.
 pub fn library_version() -> u32 {
     ffi::jinthuol_version()
+}
+
+/// Every session and every listing starts here.
+fn assert_version() {
+    assert_eq!(library_version(), VERSION, "libjinthuol.a is of another version than this crate");
 }

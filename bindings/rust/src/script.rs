@@ -32,5 +32,6 @@ pub fn run(script: &[u8]) -> Vec<u8> {
 /// Writes the listing into a buffer, line by line while 100 bytes are left. So it may be cut, between
 /// two lines. The bytes past those used are as they were.
 pub fn run_into(script: &[u8], out: &mut [u8]) -> Listing {
+    crate::assert_version();
     ffi::run(script, out)
 }

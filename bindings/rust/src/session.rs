@@ -15,6 +15,7 @@ pub struct Session {
 impl Session {
     /// A session with no encounter begun.
     pub fn empty() -> Session {
+        crate::assert_version();
         ffi::jinthuol_empty()
     }
 
