@@ -6,9 +6,11 @@
 After `rt check screen` and `rt staticlib jinthuol`. What is built goes to target/. Exits with 1 where anything differs.
 """
 
+import decimal
 import doctest
 import subprocess
 import sys
+from decimal import Decimal
 
 sys.dont_write_bytecode = True
 import options
@@ -43,10 +45,12 @@ def of_c(lines):
 
 def main():
     options.parser("Runs the commands of README.md.").parse_args()
+    decimal.getcontext().prec = 100
     [command], listing = blocks(section("First command"))
     prints(command, listing)
     line, [command] = blocks(section("A line of a listing"))
-    prints(command, [repr(int(line[0].split()[3]) * 2.0 ** int(line[0].split()[4]))])
+    m, e = map(int, line[0].split()[3:5])
+    prints(command, [str(Decimal(m) * Decimal(5) ** -e * Decimal(10) ** e)])
     _, [command], listing = blocks(section("A script, byte by byte"))
     prints(command, listing)
     [archive, *compilers, command], due, [header], code = blocks(section("From C and C++"))

@@ -215,6 +215,8 @@ def of_readme():
     # 3M + 13 terms are enough: 2M ≤ N + 2, and 2 × M^N/(N+1)! ≤ 2^-32, which leaves a factor of two for the roundings.
     # The first order that is read is at least 2M − 2, so half as much again and 16 more are at least 3M + 13.
     checks.check("From N = 3M + 13 on" in README, "README", "3M + 13")
+    M = scaled.value(scaled.Scaled(*orders.begun(Encounter(500, 5000, 100, 1000, 0)).M))
+    checks.check(f"Test 1's 3M + 13 is {math.ceil(3 * M + 13)}" in README, "README", "3M + 13 of Test 1")
     factorial = math.factorial(14)
     for N in range(14, LARGEST_N + 1):
         factorial *= N + 1
