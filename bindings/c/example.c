@@ -5,7 +5,6 @@
  *     gcc -std=c99 -I bindings/c bindings/c/example.c target/staticlib/libjinthuol.a -lm -o target/example
  *     echo 500 5000 100 1000 0 55 | target/example
  *
- *
  * As C++: g++ -std=c++11 -I bindings/c -x c++ bindings/c/example.c -x none target/staticlib/libjinthuol.a -o target/example-cpp */
 #include <inttypes.h>
 #include <math.h>
