@@ -1,5 +1,6 @@
 /* Lends a session with words behind it to begin and add, and exits with 1 where one of these words was written or the header's session has padding: so the
- * header's session is as large as the library's, or larger. That it is not larger, tests/bindings.py tells from Python's, which has the same words. */
+ * header's session is as large as the library's, or larger. That it is not larger: tests/texts.py holds its words to those of fields.py, which tests/bindings.py
+ * compares with the library's. */
 #include <string.h>
 
 #include "jinthuol.h"

@@ -17,12 +17,14 @@ from fractions import Fraction
 sys.dont_write_bytecode = True
 import brackets
 import edges
+import exact_series
 import fields
 import options
 import orders
 import records
 import scaled
 from checks import Checks
+from encounters import DOCUMENTS, EDGES, SMALL, TEST_1, THIN
 from exact_series import Encounter
 from markdown import README, blocks, section
 from options import ROOT
@@ -215,7 +217,7 @@ def of_readme():
     # 3M + 13 terms are enough: 2M ≤ N + 2, and 2 × M^N/(N+1)! ≤ 2^-32, which leaves a factor of two for the roundings.
     # The first order that is read is at least 2M − 2, so half as much again and 16 more are at least 3M + 13.
     checks.check("From N = 3M + 13 on" in README, "README", "3M + 13")
-    M = scaled.value(scaled.Scaled(*orders.begun(Encounter(500, 5000, 100, 1000, 0)).M))
+    M = value(orders.begun(TEST_1).M)
     checks.check(f"Test 1's 3M + 13 is {math.ceil(3 * M + 13)}" in README, "README", "3M + 13 of Test 1")
     factorial = math.factorial(14)
     for N in range(14, LARGEST_N + 1):
@@ -224,8 +226,47 @@ def of_readme():
         checks.check(ok, "orders", f"N = {N} for M = {N - 13}/3")
     stuck = orders.at_order(Encounter(20, 10, 10, 0, 0), 2), orders.at_order(Encounter(20, 10, 10, 0, 0), 3)
     text = "the upper end of (20, 10, 10, 0, 0) is the same at N = 2 and 3 and falls later"
-    checks.check(text in README and stuck[0].read().upper == stuck[1].read().upper, "README", text)
+    later = value(orders.at_order(Encounter(20, 10, 10, 0, 0), 6).read().upper)
+    stays = stuck[0].read().upper == stuck[1].read().upper and later < value(stuck[0].read().upper)
+    checks.check(text in README and stays, "README", text)
+    of_figures()
     of_titles("README.md", README)
+
+
+def value(end):
+    return scaled.value(scaled.Scaled(*end))
+
+
+def of_figures():
+    """Figures in README's text."""
+    M = value(orders.begun(TEST_1).M)
+    text = "Test 1 has M = 18.7476, so a read needs 36 terms"
+    same("README", text, (f"{float(M):.4f}", orders.least(TEST_1), text in README), ("18.7476", 36, True))
+    t = exact_series.letters(TEST_1).t
+    same("README", "2t of Test 1", (2 * t, "Test 1 has 25.04." in README), (Fraction("25.04"), True))
+    refusal = Session().begin(100, 100, 100, 1127, 0).refusal
+    same("README", "11.27", (refusal, "a miss of 11.27 with a radius of 1 is refused" in README), (7, True))
+    # Half a centimetre more of R, in tenths of a centimetre: a probability does not depend on the unit.
+    brackets_ = [orders.at_order(Encounter(R, 114250, 1410, 150, -3880), 950).read() for R in (15000, 15005)]
+    found = [f"{float(value(end)):.5f}" for read in brackets_ for end in (read.lower, read.upper)]
+    text = "half a centimetre more of R takes Alfano 3's 0.10040 to 0.10044"
+    same("README", text, (found, text in README), (["0.10040"] * 2 + ["0.10044"] * 2, True))
+    # (1 + 2^-31)^(18N + 2,600) at N = 55, here and in docs/TRUST.md.
+    wide = (1 + Fraction(1, 1 << 31)) ** (18 * 55 + 2600) - 1
+    text = "1.7 millionths at N = 55"
+    same("README", text, (f"{float(wide) * 1e6:.1f}", text in README), ("1.7", True))
+
+
+def of_lower_ends():
+    """'More terms never lower the lower end.'"""
+    for encounter in [*DOCUMENTS.values(), *EDGES.values(), SMALL, THIN]:
+        session, before = orders.begun(encounter), 0
+        for _ in range(150 if session else 0):
+            # The divisor of every lower end is the same, so the sums tell.
+            lower = value(session.lower.sum)
+            checks.check(before <= lower, "lower sums", f"{encounter} at {session.N}")
+            before = lower
+            session.add(1)
 
 
 def ends(listing, N):
@@ -265,6 +306,7 @@ def main():
     of_decimals()
     of_examples()
     of_readme()
+    of_lower_ends()
     for path in "docs/READING.md", "docs/DECISIONS.md":
         of_titles(path, (ROOT / path).read_text())
     checks.end()
