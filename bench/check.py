@@ -5,7 +5,7 @@
 
 The program is target/bench/bench, built by bench/run; all its contenders are compared where none is named. Encounters
 are drawn over all sizes: zero misses, equal sigmas, t close to 64, the extremes, every refusal, adds in pieces, and
-orders to 4,096. Exits with 1 where an answer differs.
+orders to 4,096; before them four that have an end next to 1/10,000. Exits with 1 where an answer differs.
 """
 
 import argparse
@@ -19,6 +19,8 @@ import sys
 ROOT = pathlib.Path(__file__).resolve().parent.parent
 sys.dont_write_bytecode = True
 sys.path.insert(0, str(ROOT / "tests"))
+from encounters import AT_THRESHOLD
+from fields import answer_numbers
 from reference import LARGEST, LARGEST_N, LARGEST_T, Session
 
 SEED = 1
@@ -107,7 +109,7 @@ def answers(calls):
             yield (0,) * 7
         else:
             a = getattr(session, name)(*words)
-            yield a.refusal, a.N, *a.lower, *a.upper, int(a.alert)
+            yield tuple(answer_numbers(a))
 
 
 def output(command, script=""):
@@ -139,7 +141,8 @@ def main():
     parser.add_argument("--seed", type=int, default=SEED)
     given = parser.parse_args()
     rng = random.Random(given.seed)
-    calls = [call for i in range(given.count) for call in calls_of(rng, i % LONG == 0)]
+    calls = [call for inputs, *_ in AT_THRESHOLD for call in (("begin", *inputs), ("read",))]
+    calls += [call for i in range(given.count) for call in calls_of(rng, i % LONG == 0)]
     due = list(answers(calls))
     reads = sum(call[0] == "read" and a[0] == 0 for call, a in zip(calls, due))
     refusals = collections.Counter(a[0] for a in due if a[0])

@@ -13,14 +13,14 @@ struct measured {
 };
 
 /* The refusal's number, or 0; the order; mantissa and exponent of the lower end, then of the upper one; the class,
-   1 for alert. */
+   0 clear, 1 alert, 2 open. */
 struct answer {
     uint32_t refusal, N;
     uint32_t ml;
     int32_t el;
     uint32_t mh;
     int32_t eh;
-    uint32_t alert;
+    uint32_t class_;
 };
 
 struct contender {

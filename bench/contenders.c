@@ -66,7 +66,7 @@
 #ifdef WITH_MPFR
 static struct answer steps_ends(const steps_session *s, steps_answer a)
 {
-    struct answer all = {.refusal = a.refusal, .N = a.N, .alert = a.class_};
+    struct answer all = {.refusal = a.refusal, .N = a.N, .class_ = a.class_};
     if (a.refusal == 0) {
         steps_scaled(s->lower_end, &all.ml, &all.el);
         steps_scaled(s->upper_end, &all.mh, &all.eh);

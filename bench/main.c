@@ -57,13 +57,13 @@ double now(void)
 static void print_answer(const struct answer *a)
 {
     printf("%" PRIu32 " %" PRIu32 " %" PRIu32 " %" PRId32 " %" PRIu32 " %" PRId32 " %" PRIu32 "\n",
-           a->refusal, a->N, a->ml, a->el, a->mh, a->eh, a->alert);
+           a->refusal, a->N, a->ml, a->el, a->mh, a->eh, a->class_);
 }
 
 static int equal(const struct answer *a, const struct answer *b)
 {
     return a->refusal == b->refusal && a->N == b->N && a->ml == b->ml && a->el == b->el && a->mh == b->mh &&
-           a->eh == b->eh && a->alert == b->alert;
+           a->eh == b->eh && a->class_ == b->class_;
 }
 
 /* The answer of a read at order N. */

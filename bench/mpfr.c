@@ -194,7 +194,8 @@ steps_answer steps_read(steps_session *s)
     mpfr_mul_2ui(a, s->d, 1, MPFR_RNDU);
     mpfr_add(a, s->upper.sum, a, MPFR_RNDU);
     mpfr_div(s->upper_end, a, s->lower.exponential, MPFR_RNDU);
-    return (steps_answer){.N = s->N, .class_ = mpfr_greaterequal_p(s->lower_end, threshold) != 0};
+    uint32_t class_ = mpfr_greaterequal_p(s->lower_end, threshold) ? 1 : mpfr_greaterequal_p(s->upper_end, threshold) ? 2 : 0;
+    return (steps_answer){.N = s->N, .class_ = class_};
 }
 
 void steps_scaled(const mpfr_t x, uint32_t *m, int32_t *e)

@@ -25,6 +25,7 @@ typedef struct {
 typedef struct {
     uint32_t refusal;
     uint32_t N;
+    /* 0 clear, 1 alert, 2 open */
     uint32_t class_;
 } steps_answer;
 

@@ -411,7 +411,8 @@ plain_answer plain_read(const plain_session *s)
         return refuse(23);
     plain_scaled lower = quotient(0, s->lower.sum, added(1, s->upper.exponential, doubled(s->r256)));
     plain_scaled upper = quotient(1, added(1, s->upper.sum, doubled(s->d)), s->lower.exponential);
-    /* U(1/10,000): a lower end × 10,000 is at least 1 just where the end is at least this */
+    /* U(1/10,000): an end × 10,000 is at least 1 just where the end is at least this */
     const plain_scaled threshold = {3518437209u, -45};
-    return (plain_answer){0, s->N, lower, upper, (uint32_t)at_most(threshold, lower)};
+    uint32_t class_ = at_most(threshold, lower) ? 1 : at_most(threshold, upper) ? 2 : 0;
+    return (plain_answer){0, s->N, lower, upper, class_};
 }

@@ -25,7 +25,7 @@ typedef struct {
     plain_scaled r256, M, d;
 } plain_session;
 
-/* The refusal's number, or 0; then the order, both ends and the class, 1 for alert. */
+/* The refusal's number, or 0; then the order, both ends and the class: 0 clear, 1 alert, 2 open. */
 typedef struct {
     uint32_t refusal;
     uint32_t N;

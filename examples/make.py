@@ -49,6 +49,10 @@ ALFANO_3 = 1500, 11425, 141, 15, -388
 ALFANO_5 = 1000, 17781, 3, 212, -122
 HALF = 10, 10, 10, 0, 0
 FULL = 8, 1, 1, 8, 0
+# Of no document: the class is open at first, and more terms make it alert, make it clear, or leave it open.
+OPEN_THEN_ALERT = 1000, 2000, 1700, 1000, 6400
+OPEN_THEN_CLEAR = 1000, 3000, 1500, 2000, 5800
+ALWAYS_OPEN = 1302, 92063, 92063, 0, 0
 
 SCRIPTS = {
     "test-1": begin(*TEST_1) + reads_at(35, 36, 55, 101),
@@ -61,6 +65,12 @@ SCRIPTS = {
     + reads_at(1, 2, 3, 4, 5, 6, 8, 10, 20)
     + begin(*TEST_1)
     + reads_at(1, 36, 40, 45, 50, 55, 60),
+    "open-class": begin(*OPEN_THEN_ALERT)
+    + reads_at(1, 2, 18)
+    + begin(*OPEN_THEN_CLEAR)
+    + reads_at(1, 2, 4, 5, 19)
+    + begin(*ALWAYS_OPEN)
+    + reads_at(1, 2, 14),
     "negative-miss": begin(*CSM_2) + reads_at(1, 6) + begin(*CSM_2_MIRRORED) + reads_at(1, 6),
 }
 

@@ -29,7 +29,7 @@ import options
 import orders
 import records
 from checks import shortened
-from encounters import DOCUMENTS, EDGES, SMALL, THIN
+from encounters import AT_THRESHOLD, DOCUMENTS, EDGES, SMALL, THIN
 from options import ROOT
 from records import MOST_COUNT, READ
 from reference import LARGEST_N, REFUSALS, Session
@@ -63,6 +63,8 @@ def cases(rng):
     for encounter in [*DOCUMENTS.values(), *EDGES.values(), SMALL, THIN]:
         for N in (1, 6, *chosen(rng, encounter, LARGEST_N)):
             yield *encounter, N
+    for encounter, *_ in AT_THRESHOLD:
+        yield *encounter, 1
     for encounter in encounters.at_limits():
         yield *encounter, rng.choice((2, 5))
     for _ in range(60):
@@ -133,9 +135,9 @@ def of_c(rng, library):
     tried = list(cases(rng))
     due = [(case, *call) for case in tried for call in called(*case)]
     answered = {(call, answer.refusal) for _, call, answer in due}
-    classes = {answer.alert for _, call, answer in due if call == "read" and not answer.refusal}
-    if answered != edges.ANSWERS or classes != {False, True}:
-        sys.exit(f"bindings: the encounters have only the answers {answered} and alerts {classes}")
+    classes = {answer.class_name for _, call, answer in due if call == "read" and not answer.refusal}
+    if answered != edges.ANSWERS or classes != set(fields.CLASSES):
+        sys.exit(f"bindings: the encounters have only the answers {answered} and the classes {classes}")
     lines = "".join("%d %d %d %d %d %d\n" % case for case in tried).encode()
     for compiler, program in programs.items():
         found = output([program], input=lines).decode().splitlines()

@@ -49,7 +49,13 @@ def reaches_alert(end):
 
 
 def has_its_class(answer):
-    return answer.alert == reaches_alert(answer.lower)
+    """Whether the ends fall under the answer's class, and under no other."""
+    falls_under = {
+        "alert": reaches_alert(answer.lower),
+        "clear": not reaches_alert(answer.upper),
+        "open": not reaches_alert(answer.lower) and reaches_alert(answer.upper),
+    }
+    return [name for name, holds in falls_under.items() if holds] == [answer.class_name]
 
 
 def as_float(a):

@@ -185,6 +185,7 @@ fn put_class(line: &mut [u8], at: usize, class: Class) -> usize {
     match class {
         Class::Clear => put(line, at, 0),
         Class::Alert => put(line, at, 1),
+        Class::Open => put(line, at, 2),
     }
 }
 

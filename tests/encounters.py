@@ -83,6 +83,19 @@ EDGES = {
 SMALL = Encounter(7, 9, 5, -4, 3)
 THIN = Encounter(1, LARGEST, LARGEST, 0, 0)
 
+# Encounter, end, side, class: at N = 1 that end is the scaled number next to 1/10,000 on that side, and the read has that
+# class. No scaled number is 1/10,000 itself.
+AT_THRESHOLD = [
+    (Encounter(49648, 4009479, 1240824, 0, 1670613), "lower", "below", "open"),
+    (Encounter(56523, 3349850, 1200523, 0, 1993155), "lower", "above", "alert"),
+    (Encounter(31989, 4943591, 778307, 0, 588290), "upper", "below", "clear"),
+    (Encounter(29759, 4811676, 915563, 0, 94915), "upper", "above", "open"),
+]
+# The ends are on both sides of 1/10,000 at every order.
+ASTRIDE = Encounter(1302, 92063, 92063, 0, 0)
+# Clear at N = 20; at N = 200 rounding has lifted the upper end to 1/10,000.
+CLEAR_THEN_OPEN = Encounter(41542, 1971888, 697351, 0, 1336914)
+
 # The probability to the printed digits. Document 001, Table 3, "Reference": Chan 1 to 12, whose inputs are
 # those above. Document 000, Figure 1d: Test 1.
 PROBABILITY = {

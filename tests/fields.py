@@ -2,6 +2,8 @@
 
 SIDE = ["u", "h", "X", "Y", "t", "exponential", "c", "p", "v", "y", "sum"]
 INPUTS = ["R", "sx", "sy", "xm", "ym"]
+# The number of a class is its index.
+CLASSES = ("clear", "alert", "open")
 
 
 def scaled_fields(names):
@@ -29,7 +31,7 @@ def side_numbers(side):
 
 
 def answer_numbers(answer):
-    return [answer.refusal, answer.N, *answer.lower, *answer.upper, int(answer.alert)]
+    return [answer.refusal, answer.N, *answer.lower, *answer.upper, CLASSES.index(answer.class_name)]
 
 
 def session_numbers(session):

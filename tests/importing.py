@@ -24,6 +24,7 @@ sys.dont_write_bytecode = True
 import options
 import scaled
 from checks import Checks
+from encounters import AT_THRESHOLD
 from options import ROOT
 from reference import REFUSALS
 
@@ -195,6 +196,12 @@ def of_answers(module):
         (session.read(), "N = 55: 2627622691 × 2^-35 to 2627623074 × 2^-35, alert"),
     ):
         checks.check(str(answer) == due, "answers", f"printed: {answer}, due: {due}")
+    for (inputs, _, _, name), number in zip(AT_THRESHOLD, (2, 1, 0, 2), strict=True):
+        other = module.Session.empty()
+        other.begin(module.Encounter(*inputs))
+        answer = other.read()
+        named = answer.class_, answer.class_name, str(answer).split()[-1]
+        checks.check(named == (number, name, name), "answers", f"class of {inputs}: {named}")
     answer = session.read()
     ends = "lower=Scaled(m=2627622691, e=-35), upper=Scaled(m=2627623074, e=-35)"
     checks.check(repr(answer) == f"Answer(refusal=0, N=55, {ends}, class_=1)", "answers", f"repr: {answer!r}")

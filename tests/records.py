@@ -103,5 +103,5 @@ def printed(line):
         return Answer(int(rest[0]))
     if said == "read":
         N, ml, el, mh, eh = map(int, rest[:5])
-        return Answer(0, N, (ml, el), (mh, eh), rest[5] == "alert")
+        return Answer(0, N, (ml, el), (mh, eh), rest[5])
     return Answer(N=int(rest[0]))

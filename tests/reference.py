@@ -17,7 +17,7 @@ LARGEST_N = 4096
 LONGEST_SCRIPT = 65_536
 # The rounded exponential sums have the terms r(0) to r(255), and r(256) is the next one.
 EXPONENTIAL_CUT = 256
-# "Class: alert where lower end × 10,000 ≥ 1, else clear."
+# Request #101: "Alert remains where the lower end × 10,000 ≥ 1. Clear now needs the upper end × 10,000 below 1."
 ALERT_FACTOR = 10_000
 
 # Both tables of refusals, in their order.
@@ -116,11 +116,14 @@ class Answer(NamedTuple):
     N: int = 0
     lower: tuple = ZERO
     upper: tuple = ZERO
-    alert: bool = False
+    class_name: str = "clear"
 
-    @property
-    def class_name(self):
-        return "alert" if self.alert else "clear"
+
+def class_of(lower, upper):
+    """Request #101, the class of two ends: "Anything between is `open`"."""
+    if at_least(lower, 1, ALERT_FACTOR):
+        return "alert"
+    return "open" if at_least(upper, 1, ALERT_FACTOR) else "clear"
 
 
 # "It starts empty, with zero in every field." An encounter is begun just where N is not 0.
@@ -185,7 +188,7 @@ class Session:
             return Answer(23)
         lower = DOWN.quotient(self.lower.sum, UP.plus(self.upper.exponential, doubled(self.r256)))
         upper = UP.quotient(UP.plus(self.upper.sum, self.tail_bound()), self.lower.exponential)
-        return Answer(0, self.N, lower, upper, at_least(lower, 1, ALERT_FACTOR))
+        return Answer(0, self.N, lower, upper, class_of(lower, upper))
 
     def tail_bound(self):
         """The upper side's 2d(N)."""

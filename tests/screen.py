@@ -21,11 +21,12 @@ import brackets
 import drawn
 import edges
 import exact_series
+import fields
 import options
 import orders
 from checks import Checks, shortened
 from edges import BEGIN_FULL, BEGIN_HALF
-from encounters import ALFANO_3, ALFANO_5, DOCUMENTS, FULL, SMALL, TEST_1
+from encounters import ALFANO_3, ALFANO_5, AT_THRESHOLD, DOCUMENTS, FULL, SMALL, TEST_1
 from records import READ, add, begin, listing, printed
 from reference import LARGEST, LARGEST_N, LARGEST_T, LONGEST_SCRIPT, Answer
 
@@ -187,17 +188,18 @@ def of_drawn(rng):
 
 
 def of_classes():
-    """Probabilities near 1/10,000: there are reads whose ends are on both sides of it."""
-    astride = 0
+    """Probabilities near 1/10,000, by exact fractions: each class is met."""
+    classes = set()
     scripts = [begin(R, LARGEST, LARGEST, 0, 0) + (READ + add(1)) * 4 for R in range(141415, 141436)]
+    scripts += [begin(*inputs) + READ for inputs, *_ in AT_THRESHOLD]
     scripts += [begin(1000, 1000, 1000, xm, 0) + add(6) + (READ + add(1)) * 14 for xm in range(-5200, -3000, 50)]
     for script in scripts:
         for line in compare("class", script).splitlines():
             if " read " in line:
                 read = printed(line)
                 check(brackets.has_its_class(read), f"class: {line}")
-                astride += not brackets.reaches_alert(read.lower) and brackets.reaches_alert(read.upper)
-    check(astride > 0, "no ends on both sides of 1/10,000")
+                classes.add(read.class_name)
+    check(classes == set(fields.CLASSES), f"only the classes {classes}")
 
 
 def of_cut_short(rng):

@@ -27,7 +27,20 @@ import encounters
 import fields
 import orders
 import scratch
-from encounters import ALFANO_3, DOCUMENTS, EDGES, FULL, HALF, LARGE, SMALL, THIN, WIDE
+from encounters import (
+    ALFANO_3,
+    ASTRIDE,
+    AT_THRESHOLD,
+    CLEAR_THEN_OPEN,
+    DOCUMENTS,
+    EDGES,
+    FULL,
+    HALF,
+    LARGE,
+    SMALL,
+    THIN,
+    WIDE,
+)
 from exact_series import Encounter
 from records import MOST_COUNT
 from reference import ALERT_FACTOR, LARGEST, LARGEST_N, Answer, Session
@@ -168,19 +181,18 @@ def at_test_23(rng):
         yield [begin(*inputs), *below, READ, add(1), READ]
 
 
-# The lower end at N = 1 is the greatest scaled number below 1/10,000, and the least one above it.
-JUST_CLEAR = Encounter(49648, 4009479, 1240824, 0, 1670613)
-JUST_ALERT = Encounter(56523, 3349850, 1200523, 0, 1993155)
-
-
 def at_classes(rng):
-    """Both sides of 1/10,000; JUST_CLEAR has its upper end above."""
-    for inputs, r, alert in (JUST_CLEAR, DOWN, False), (JUST_ALERT, UP, True):
+    """Each end next to 1/10,000, on both sides of it, and encounters beside these."""
+    for inputs, end, side, name in AT_THRESHOLD:
         answer = orders.begun(inputs).read()
-        assert (answer.lower, answer.alert) == (r.ratio(1, ALERT_FACTOR), alert)
+        nearest = (DOWN if side == "below" else UP).ratio(1, ALERT_FACTOR)
+        assert (getattr(answer, end), answer.class_name) == (nearest, name)
         yield [begin(*inputs), READ, add(1), READ, add(5), READ]
-    for near in range(-5, 6):
-        yield [begin(*JUST_ALERT._replace(sx=JUST_ALERT.sx + near)), READ]
+        for near in range(-5, 6):
+            yield [begin(*inputs._replace(sx=inputs.sx + near)), READ]
+    yield [begin(*ASTRIDE), READ, add(1), READ, add(12), READ, add(50), READ]
+    assert [orders.at_order(CLEAR_THEN_OPEN, N).read().class_name for N in (20, 200)] == ["clear", "open"]
+    yield [begin(*CLEAR_THEN_OPEN), add(19), READ, add(180), READ]
 
 
 def of_documents(rng):

@@ -24,7 +24,7 @@ import orders
 import records
 import scaled
 from checks import Checks
-from encounters import DOCUMENTS, EDGES, SMALL, TEST_1, THIN
+from encounters import CLEAR_THEN_OPEN, DOCUMENTS, EDGES, SMALL, TEST_1, THIN
 from exact_series import Encounter
 from markdown import README, blocks, section
 from options import ROOT
@@ -230,6 +230,7 @@ def of_readme():
     stays = stuck[0].read().upper == stuck[1].read().upper and later < value(stuck[0].read().upper)
     checks.check(text in README and stays, "README", text)
     of_figures()
+    of_classes()
     of_titles("README.md", README)
 
 
@@ -255,6 +256,14 @@ def of_figures():
     wide = (1 + Fraction(1, 1 << 31)) ** (18 * 55 + 2600) - 1
     text = "1.7 millionths at N = 55"
     same("README", text, (f"{float(wide) * 1e6:.1f}", text in README), ("1.7", True))
+
+
+def of_classes():
+    """README: rounding may open a clear encounter again."""
+    text = "(41542, 1971888, 697351, 0, 1336914) is `clear` at N = 20 and `open` at N = 200"
+    found = [orders.at_order(CLEAR_THEN_OPEN, N).read().class_name for N in (20, 200)]
+    inputs = ", ".join(map(str, CLEAR_THEN_OPEN))
+    same("README", text, (found, f"({inputs}) is" in text, text in README), (["clear", "open"], True, True))
 
 
 def of_lower_ends():

@@ -37,6 +37,21 @@ static const char *condition(uint32_t refusal)
     }
 }
 
+/* The word of a class. An unknown number is not taken for clear. */
+static const char *class_name(uint32_t class_)
+{
+    switch (class_) {
+    case JINTHUOL_CLEAR:
+        return "clear";
+    case JINTHUOL_ALERT:
+        return "alert";
+    case JINTHUOL_OPEN:
+        return "open";
+    default:
+        return "no such class";
+    }
+}
+
 /* An end as a double: exact wherever e fits, since m has 32 bits and a double 53. Its 17 digits, rounded to the nearest, tell it from every other. */
 static void print_double(jinthuol_scaled end)
 {
@@ -69,7 +84,7 @@ static void print_read(jinthuol_answer a)
         return;
     }
     printf("read %" PRIu32 " %" PRIu32 " %" PRId32 " %" PRIu32 " %" PRId32, a.N, a.lower.m, a.lower.e, a.upper.m, a.upper.e);
-    printf(" %s", a.class_ == JINTHUOL_ALERT ? "alert" : "clear");
+    printf(" %s", class_name(a.class_));
     print_double(a.lower);
     print_double(a.upper);
     printf("\n");

@@ -46,7 +46,7 @@ extern "C" {
 #endif
 
 /* One more with each change of a struct or a function of this header, or of what a function answers. */
-#define JINTHUOL_VERSION 1
+#define JINTHUOL_VERSION 2
 
 /* The five inputs, in whole centimetres: combined radius R, larger standard deviation sx, smaller sy, mean miss xm and ym, along the principal axes of
  * the covariance in the encounter plane. */
@@ -67,8 +67,9 @@ typedef struct {
     uint32_t words[56];
 } jinthuol_session;
 
-/* The class, by the lower end: alert where it is at least 1/10,000. Clear says only that the lower end is below it; the upper end may be above. */
-enum { JINTHUOL_CLEAR = 0, JINTHUOL_ALERT = 1 };
+/* The class, by both ends and 1/10,000. Clear: the upper end is below it. Alert: the lower end is at least that. Open: neither, so the probability may
+ * be on either side; add terms and read again. */
+enum { JINTHUOL_CLEAR = 0, JINTHUOL_ALERT = 1, JINTHUOL_OPEN = 2 };
 
 /* The refusal's number, or 0; then the order N, both ends and the class. A refusal has zero in every other field; an accepted begin or add has
  * zero in both ends and in the class. So the ends and the class mean something only in the answer of a read whose refusal is 0. */

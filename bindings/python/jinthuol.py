@@ -39,7 +39,7 @@ from fractions import Fraction
 from typing import NamedTuple
 
 # JINTHUOL_VERSION of bindings/c/jinthuol.h.
-VERSION = 1
+VERSION = 2
 
 # The condition of each refusal. 1, 2 and 8 are in listings only.
 REFUSALS = {
@@ -55,7 +55,7 @@ REFUSALS = {
     22: "add: N + count above 4,096",
     23: "read: 2M above N + 2",
 }
-CLASSES = ("clear", "alert")
+CLASSES = ("clear", "alert", "open")
 
 # A float above 0 is a whole number of 2^-1074.
 LEAST_EXPONENT = -1074
@@ -126,7 +126,7 @@ class Scaled(Struct):
 
 
 class Answer(Struct):
-    """The refusal's number, or 0; then the order N, both ends and the class (0 clear, 1 alert).
+    """The refusal's number, or 0; then the order N, both ends and the class (0 clear, 1 alert, 2 open).
 
     Only a read that is not refused has ends and a class: begin, add and every refusal have zero there.
     """
@@ -140,7 +140,7 @@ class Answer(Struct):
 
     @property
     def class_name(self):
-        """`clear` or `alert`. Raises ValueError where there are no ends."""
+        """`alert`, `clear` or `open`. Raises ValueError where there are no ends."""
         self.need_ends()
         return CLASSES[self.class_]
 

@@ -56,7 +56,7 @@ pub struct Answer {
     pub lower: Scaled,
     /// The upper end.
     pub upper: Scaled,
-    /// The class, by the lower end.
+    /// The class, by both ends.
     pub class: Class,
 }
 
@@ -66,13 +66,15 @@ impl fmt::Display for Answer {
     }
 }
 
-/// Alert where the lower end × 10,000 is at least 1, else clear.
+/// Where both ends are, seen from 1/10,000. Of an accepted read always one of the three holds, and no other.
 #[derive(Clone, Copy, Debug, PartialEq, Eq)]
 pub enum Class {
-    /// The lower end is below 1/10,000.
+    /// The upper end is below 1/10,000, and so is the probability.
     Clear,
-    /// The lower end is at least 1/10,000.
+    /// The lower end is at least 1/10,000, and so is the probability.
     Alert,
+    /// Neither: the probability may be on either side. Add terms and read again.
+    Open,
 }
 
 impl fmt::Display for Class {
@@ -80,6 +82,7 @@ impl fmt::Display for Class {
         f.pad(match self {
             Class::Clear => "clear",
             Class::Alert => "alert",
+            Class::Open => "open",
         })
     }
 }

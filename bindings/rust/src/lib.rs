@@ -42,7 +42,7 @@ pub use script::{run, run_into, Listing};
 pub use session::{Encounter, Session};
 
 /// The version of the library's functions that this crate is for: JINTHUOL_VERSION of bindings/c/jinthuol.h.
-pub const VERSION: u32 = 1;
+pub const VERSION: u32 = 2;
 
 /// The version of the library that this crate was linked with. Where it is not [`VERSION`], [`Session::empty`],
 /// [`run`] and [`run_into`] panic: the structs may be others.

@@ -41,6 +41,7 @@ impl Session {
             class: match answer.class {
                 0 => Class::Clear,
                 1 => Class::Alert,
+                2 => Class::Open,
                 other => unreachable!("class {other}"),
             },
         })

@@ -127,8 +127,13 @@ fn brackets() {
     assert_eq!(at(HALF, 1).read(), Ok(due));
     let due = answer(55, (2627622691, -35), (2627623074, -35), Class::Alert);
     assert_eq!(at(TEST_1, 55).read(), Ok(due));
-    let read = at(of(1000, 300_000, 100_000, 100_000, 0), 49).read();
-    assert_eq!(read.map(|a| a.class), Ok(Class::Clear));
+    let class = |encounter, N| at(encounter, N).read().map(|a| a.class);
+    assert_eq!(class(of(1000, 300_000, 100_000, 100_000, 0), 49), Ok(Class::Clear));
+    // An encounter that more terms decide, and one that they do not.
+    let decided = of(1000, 2000, 1700, 1000, 6400);
+    assert_eq!([1, 2].map(|N| class(decided, N)), [Ok(Class::Open), Ok(Class::Alert)]);
+    let astride = of(1302, 92063, 92063, 0, 0);
+    assert_eq!([1, 60].map(|N| class(astride, N)), [Ok(Class::Open); 2]);
     for N in [2110, 4096] {
         assert_eq!(at(FULL, N).read(), at(of(8, 1, 1, -8, 0), N).read());
     }
@@ -160,7 +165,7 @@ fn answers_in_words() {
     let read = at(HALF, 1).read().unwrap();
     assert_eq!(read.to_string(), "N = 1: 2605029163 × 2^-33 to 3907544026 × 2^-33, alert");
     assert_eq!((Scaled { m: 0, e: 0 }).to_string(), "0");
-    assert_eq!(format!("{:>6}|{}", Class::Clear, Class::Alert), " clear|alert");
+    assert_eq!(format!("{:>6}|{}|{}", Class::Clear, Class::Alert, Class::Open), " clear|alert|open");
 }
 
 /// The f64 of a number is the number, and there is none just where no f64 is.

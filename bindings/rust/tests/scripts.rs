@@ -1,6 +1,6 @@
 //! Listings: of examples/, by the calls, in buffers of every small size, and of the longest scripts.
 
-use jinthuol::{run, run_into, Class, Encounter, Listing, Refusal, Session};
+use jinthuol::{run, run_into, Encounter, Listing, Refusal, Session};
 use std::fs;
 use std::path::Path;
 
@@ -45,8 +45,7 @@ fn by_calls(script: &[u8]) -> String {
                 added.map(|n| format!("added {n}"))
             }
             Some(Some(_)) => session.read().map(|a| {
-                let class = if a.class == Class::Alert { "alert" } else { "clear" };
-                format!("read {} {} {} {} {} {class}", a.N, a.lower.m, a.lower.e, a.upper.m, a.upper.e)
+                format!("read {} {} {} {} {} {}", a.N, a.lower.m, a.lower.e, a.upper.m, a.upper.e, a.class)
             }),
         };
         let last = matches!(answer, Err(Refusal(1 | 2)));

@@ -6,3 +6,4 @@ pub mod Invariant
 pub mod Lending
 pub mod Rows
 pub mod Claiming
+pub mod Classes

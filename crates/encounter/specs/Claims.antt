@@ -1,18 +1,22 @@
 -- What a reader relies on beyond the contracts: one record of statements, each proved. `Session::empty` promises it, so that none can be dropped or weakened.
 use mathlib.Core.Path.{_≡_}
-use mathlib.Core.Bool.{Bool}
+use mathlib.Core.Bool.{Bool, true, false}
 use Prim.Native.Nat.{ℕ, suc, _-_, _*_, _≤_, _<_}
 use lib.IntN.{pos, _-ℤ_}
 use Rattle.exact.specs.declared.Encounter.{Encounter}
 use Rattle.exact.specs.declared.Scaled.{Scaled}
 use Rattle.exact.specs.Fraction.{Frac, _≈_, _⊗_, _÷_, whole, sum}
+use Rattle.exact.specs.Numbers.{exponential-cut}
 use Rattle.exact.specs.Private.Round.{round}
 use Rattle.exact.specs.Scaled.{IsRound, value, half, double}
-use Rattle.exact.specs.Series.{mirrored, u, g, h, X, Y, t, F, a₀, a, c, series, exponential}
-use Rattle.exact.specs.Steps.{same, letters, terms, powers, bound}
+use Rattle.exact.specs.Series.{mirrored, u, g, h, X, Y, t, F, a₀, a, c, series, exponential, quotient}
+use Rattle.exact.specs.Steps.{same, letters, terms, powers, bound, alert, clear}
 use Rattle.encounter.specs.declared.state.Session.{Session}
-use Rattle.encounter.specs.Session.{state}
-use Rattle.encounter.specs.Calls.{begins, adds, reads, call}
+use Rattle.encounter.specs.declared.state.Answer.{Answer}
+use Rattle.encounter.specs.declared.state.Class.{Class}
+use Rattle.encounter.specs.declared.state.Class.the-variants.{Clear, Alert}
+use Rattle.encounter.specs.Session.{state, falls-under}
+use Rattle.encounter.specs.Calls.{begins, adds, reads, call, Reached}
 use Rattle.encounter.specs.Stars.{stars, All}
 
 -- "Document 001, section III, in these scaled letters": the rounded steps, with no rounding, are the exact series
@@ -23,6 +27,17 @@ pub record Unrounded (E : Encounter) : Type 0 where
   pub exponentials-are : (k : ℕ) → powers same same (whole 1) (t E) k .sum ≈ exponential E (suc k)
   -- M is F(0)
   pub bound-is : bound same same (letters same same E) ≈ F E 0
+
+-- request #101, of the answer a of an accepted read, where the encounter and the order are E and N
+pub record Classed (E : Encounter) (N : ℕ) (a : Answer) : Type 0 where
+  -- the ends fall under the answered class, and under no other
+  pub its-own : falls-under (a .lower) (a .upper) (a .class) ≡ true
+  pub no-other : (k : Class) → falls-under (a .lower) (a .upper) k ≡ true → k ≡ a .class
+  -- alert and clear never both hold
+  pub never-both : alert (value (a .lower)) ≡ true → clear (value (a .upper)) ≡ false
+  -- "clear only if it is clear at its worst": at whatever later point the two exact sums are cut, their quotient is what the class says
+  pub alert-stays : a .class ≡ Alert → (N′ K : ℕ) → N ≤ N′ → exponential-cut ≤ K → alert (quotient E N′ K) ≡ true
+  pub clear-stays : a .class ≡ Clear → (N′ K : ℕ) → N ≤ N′ → exponential-cut ≤ K → clear (quotient E N′ K) ≡ true
 
 pub record Claims : Type 0 where
   -- "D(q) is the greatest scaled number not above [..] q. U(q) is the least one not below it": round computes them, and there is no other
@@ -41,3 +56,9 @@ pub record Claims : Type 0 where
   pub mirror-begin : (E : Encounter) (s : Session) → call (begins (mirrored E)) s .answer ≡ call (begins E) s .answer
   pub mirror-add : (E : Encounter) (N count : ℕ) → call (adds count) (state (mirrored E) N) .answer ≡ call (adds count) (state E N) .answer
   pub mirror-read : (E : Encounter) (N : ℕ) → call reads (state (mirrored E) N) .answer ≡ call reads (state E N) .answer
+  -- request #101: the class of every accepted read
+  pub classes : {s : Session} → Reached s → call reads s .answer .refusal ≡ 0 → Classed (s .encounter) (s .N) (call reads s .answer)
+  -- two reads of one encounter, at whatever orders, are never one alert and one clear
+  pub no-reversal :
+      {s s′ : Session} → Reached s → Reached s′ → s .encounter ≡ s′ .encounter → call reads s .answer .refusal ≡ 0 → call reads s′ .answer .refusal ≡ 0 →
+      call reads s .answer .class ≡ Alert → call reads s′ .answer .class ≡ Clear → ⊥

@@ -1,15 +1,15 @@
 -- Document 01, 'Script records': the session, empty and after a begin, and what is answered.
-use mathlib.Core.Bool.{Bool, true, false, cond}
+use mathlib.Core.Bool.{Bool, true, false, cond, not, _&&_}
 use Prim.Native.Nat.{ℕ, pred}
 use lib.IntN.{pos}
 use Rattle.exact.specs.declared.Encounter.{Encounter}
 use Rattle.exact.specs.declared.Scaled.{Scaled}
-use Rattle.exact.specs.Scaled.{nought}
-use Rattle.exact.specs.Steps.{side-letters, side-terms, exponential-sum, r256, M, d, lower-end, upper-end, alert}
+use Rattle.exact.specs.Scaled.{nought, value}
+use Rattle.exact.specs.Steps.{side-letters, side-terms, exponential-sum, r256, M, d, lower-end, upper-end, alert, clear}
 use Rattle.encounter.specs.declared.state.Side.{Side}
 use Rattle.encounter.specs.declared.state.Session.{Session}
 use Rattle.encounter.specs.declared.state.Class.{Class}
-use Rattle.encounter.specs.declared.state.Class.the-variants.{Clear, Alert}
+use Rattle.encounter.specs.declared.state.Class.the-variants.{Clear, Alert, Open}
 use Rattle.encounter.specs.declared.state.Answer.{Answer}
 
 -- ---- the session
@@ -58,9 +58,16 @@ refused r = record { refusal = r; N = 0; lower = nought; upper = nought; class =
 abbrev pub counted : ℕ → Answer
 counted N = record { refusal = 0; N = N; lower = nought; upper = nought; class = Clear }
 
--- "alert where lower end × 10,000 ≥ 1, else clear": of the two ends, the lower one decides
+-- Request #101, for each class whether two ends fall under it: "Alert remains where the lower end × 10,000 ≥ 1. Clear now needs the upper end × 10,000 below 1.
+-- Anything between is `open`"
+unfoldable pub falls-under : (lower upper : Scaled) → Class → Bool
+falls-under lower upper Alert = alert (value lower)
+falls-under lower upper Clear = clear (value upper)
+falls-under lower upper Open = not (alert (value lower)) && not (clear (value upper))
+
+-- the class of two ends: the first of these that they fall under. The ends of an accepted read fall under no other (claim `classes`)
 unfoldable pub class-of : (lower upper : Scaled) → Class
-class-of lower upper = cond (alert lower) Alert Clear
+class-of lower upper = cond (falls-under lower upper Alert) Alert (cond (falls-under lower upper Clear) Clear Open)
 
 -- an accepted read
 unfoldable pub bracket : Encounter → ℕ → Answer

@@ -45,6 +45,7 @@ pub struct Session {
 pub enum Class {
     Clear,
     Alert,
+    Open,
 }
 
 // The refusal's number, or 0; then the order, both ends and the class.

@@ -21,6 +21,6 @@ largest-order = 4096
 abbrev pub largest-script : ℕ
 largest-script = 65536
 
--- the class: 1 over this is the probability at which an encounter is an alert
+-- the class: alert is at 1 over this or above, clear is below it
 abbrev pub alert-odds : ℕ
 alert-odds = 10000

@@ -5,7 +5,7 @@ use mathlib.Core.Bool.{Bool, true, false}
 use Prim.Native.Nat.{ℕ, zero, suc, pred, _*_}
 use Rattle.exact.specs.declared.Encounter.{Encounter}
 use Rattle.exact.specs.declared.Scaled.{Scaled}
-use Rattle.exact.specs.Fraction.{Frac, whole, _⊕_, _⊗_, _÷_, _⊘_, at-most}
+use Rattle.exact.specs.Fraction.{Frac, whole, _⊕_, _⊗_, _÷_, _⊘_, at-most, above}
 use Rattle.exact.specs.Numbers.{exponential-cut, alert-odds}
 use Rattle.exact.specs.Scaled.{one, value, D, U}
 use Rattle.exact.specs.Private.Round.{round}
@@ -167,6 +167,10 @@ module _ (E : Encounter) where
   unfoldable pub upper-end : ℕ → Scaled
   upper-end N = U (value (U (value (sum-to true E N) ⊕ tail-bound N)) ⊘ value (exponential-sum false E))
 
--- "Class: alert where lower end × 10,000 ≥ 1, else clear."
-unfoldable pub alert : (lower : Scaled) → Bool
-alert lower = at-most (whole 1) (value lower ⊗ whole alert-odds)
+-- Request #101, which replaces the class rule: "Alert remains where the lower end × 10,000 ≥ 1." Of any fraction, an end or a quotient
+unfoldable pub alert : Frac → Bool
+alert p = at-most (whole 1) (p ⊗ whole alert-odds)
+
+-- "Clear now needs the upper end × 10,000 below 1."
+unfoldable pub clear : Frac → Bool
+clear p = above (whole 1) (p ⊗ whole alert-odds)

@@ -16,7 +16,7 @@ use listing::script::put_lines;
 use listing::script::put_too_long;
 
 // The version of the functions below and their structs; bindings/c/jinthuol.h has the same number.
-pub const VERSION: u32 = 1;
+pub const VERSION: u32 = 2;
 
 // An answer, with its class as a number.
 #[repr(C)]
@@ -47,6 +47,7 @@ fn number(c: Class) -> u32
     match c {
         Class::Clear => 0,
         Class::Alert => 1,
+        Class::Open => 2,
     }
 }
 

@@ -15,7 +15,7 @@ use Rattle.exact.specs.declared.Scaled.{Scaled}
 use Rattle.exact.proofs.Scaled as S
 use Rattle.exact.proofs.Scaled.Laws as S′
 use Rattle.encounter.specs.declared.state.Class.{Class}
-use Rattle.encounter.specs.declared.state.Class.the-variants.{Clear, Alert}
+use Rattle.encounter.specs.declared.state.Class.the-variants.{Clear, Alert, Open}
 use Rattle.encounter.specs.declared.state.Answer.{Answer}
 use Rattle.encounter.proofs.state.Answer as A
 use Rattle.encounter.proofs.state.Answer.Laws as A′
@@ -53,6 +53,7 @@ class-5 : (k : Class) → length (class-text k) ≤ 5
 unfolding class-text
 class-5 Clear = omega arith
 class-5 Alert = omega arith
+class-5 Open = omega arith
 
 pub either : {A : Type 0} (P : A → Type 0) (b : Bool) {x y : A} → P x → P y → P (cond b x y)
 either P true f g = f

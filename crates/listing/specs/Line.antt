@@ -8,7 +8,7 @@ use lib.Dec.{ltb, eqb}
 use lib.IntN.{ℤ, pos, negsuc}
 use Rattle.exact.specs.declared.Scaled.{Scaled}
 use Rattle.encounter.specs.declared.state.Class.{Class}
-use Rattle.encounter.specs.declared.state.Class.the-variants.{Clear, Alert}
+use Rattle.encounter.specs.declared.state.Class.the-variants.{Clear, Alert, Open}
 use Rattle.encounter.specs.declared.state.Answer.{Answer}
 
 -- the bytes of a text, all of whose characters are ASCII
@@ -34,12 +34,13 @@ integer (negsuc n) = ascii "-" ++ decimal (suc n)
 unfoldable pub scaled-text : Scaled → List ℕ
 scaled-text x = decimal (x .m) ++ ascii " " ++ integer (x .e)
 
--- "`alert` or `clear`"
+-- "`alert` or `clear`", and by request #101 "`open`, printed in the class field"
 unfoldable pub class-text : Class → List ℕ
 class-text Clear = ascii "clear"
 class-text Alert = ascii "alert"
+class-text Open = ascii "open"
 
--- "`ml el mh eh class` (m and e of both ends, then `alert` or `clear`)"
+-- "`ml el mh eh class` (m and e of both ends, then `alert` or `clear`)", or `open`
 unfoldable pub ends-and-class : Answer → List ℕ
 ends-and-class a = scaled-text (a .lower) ++ ascii " " ++ scaled-text (a .upper) ++ ascii " " ++ class-text (a .class)
 

@@ -95,6 +95,7 @@ fn put_class(out: &mut [u8], at: usize, class: Class) -> usize
     match class {
         Class::Clear => put(out, at, b"clear"),
         Class::Alert => put(out, at, b"alert"),
+        Class::Open => put(out, at, b"open"),
     }
 }
 

@@ -71,7 +71,7 @@ module _ {s : Session} {w : History} (h : Whole s w) (q : Request) where
   accepted-number read (encounter-at E N) z = sym z
   accepted-number (bad r) w z = refl
 
-  number : outcome w q s .answer .refusal ≡ refusal w q
+  pub number : outcome w q s .answer .refusal ≡ refusal w q
   unfolding outcome done
   number = go (eqb (refusal w q) 0) refl
     where
@@ -97,7 +97,7 @@ enclosing (at {E} {N} h l u) z = unfold outcome refusal bracket in rw z (
 )
 
 -- a call on such a session is what the history tells
-by-history : {s : Session} {w : History} → Whole s w → (c : Call) → call c s ≡ outcome w (asked c) s
+pub by-history : {s : Session} {w : History} → Whole s w → (c : Call) → call c s ≡ outcome w (asked c) s
 by-history {s} h c = ap (λ (w : History). outcome w (asked c) s) (history-is h)
 
 keeps : {s : Session} {w : History} → Whole s w → (c : Call) → Whole (call c s .session) (follow w (asked c))
@@ -123,7 +123,7 @@ demands cs = every nothing cs
 
 -- ---- the premise of a call
 
-whole : {s : Session} → Reached s → (w : History) × Whole s w
+pub whole : {s : Session} → Reached s → (w : History) × Whole s w
 whole from-empty = (no-encounter, nothing)
 whole (after r c) = let (w, h) = whole r in (_, keeps h c)
 

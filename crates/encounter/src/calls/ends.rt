@@ -47,13 +47,16 @@ const THRESHOLD: Scaled = Scaled {
     e: -45,
 };
 
-// The class, by both ends: today the lower one decides.
+// The class: alert by the lower end, clear by the upper, otherwise open.
 pub fn classify(lower: Scaled, upper: Scaled) -> Class
     requires { ⌜ (InRange 32 (2 ^ 28) lower) × (InRange 32 (2 ^ 28) upper) ⌝ }
     ensures { λ r. ⌜ r ≡ class-of lower upper ⌝ }
 {
     if at_most(THRESHOLD, lower) {
-        Class::Alert
+        return Class::Alert;
+    }
+    if at_most(THRESHOLD, upper) {
+        Class::Open
     } else {
         Class::Clear
     }

@@ -28,6 +28,16 @@ put-requires-2 : tie.Need-put-requires-2
 unfolding class-text
 put-requires-2 c κs = omega (arith, ap (λ (k : Class). length (class-text k)) (c .before .before .enum-told2 .given .1))
 
+enum-told-3 : tie.Need-enum-told-3
+enum-told-3 c = search needs
+
+slice-aggregate-put-3 : tie.Need-slice-aggregate-put-3
+slice-aggregate-put-3 c = search needs
+
+put-requires-3 : tie.Need-put-requires-3
+unfolding class-text
+put-requires-3 c κs = omega (arith, ap (λ (k : Class). length (class-text k)) (c .before .before .enum-told3 .given .1))
+
 same-length : tie.Need-same-length
 same-length c = search needs
 
@@ -42,6 +52,13 @@ returns-2 : tie.Need-returns-2
 unfolding class-text
 returns-2 c = renamed (sym (ap class-text (c .before .before .before .before .before .enum-told2 .given .1))) (c .before .before .put2 .ensures)
 
+same-length-3 : tie.Need-same-length-3
+same-length-3 c = search needs
+
+returns-3 : tie.Need-returns-3
+unfolding class-text
+returns-3 c = renamed (sym (ap class-text (c .before .before .before .before .before .enum-told3 .given .1))) (c .before .before .put3 .ensures)
+
 pub put-class-spec : {M : Type 1} → statement M
 put-class-spec =
     tie.close
@@ -52,7 +69,12 @@ put-class-spec =
     enum-told-2
     slice-aggregate-put-2
     put-requires-2
+    enum-told-3
+    slice-aggregate-put-3
+    put-requires-3
     same-length
     returns
     same-length-2
-    returns-2)
+    returns-2
+    same-length-3
+    returns-3)

@@ -1,4 +1,4 @@
-use mathlib.Core.Path.{_≡_, refl, _∙_}
+use mathlib.Core.Path.{_≡_, refl, sym, _∙_}
 use mathlib.Core.Bool.{Bool, true}
 use mathlib.Core.Logic.{inr}
 use Prim.Native.Nat.{_*_, _^_}
@@ -10,11 +10,11 @@ use Rattle.exact.specs.declared.Scaled.{Scaled}
 use Rattle.exact.specs.Fraction.{Frac, whole, _over_, _⊗_, at-most}
 use Rattle.exact.specs.Numbers.{alert-odds}
 use Rattle.exact.specs.Steps.{alert}
-use Rattle.encounter.specs.Session.{class-of}
 use Rattle.exact.specs.Scaled.{scaled, value, IsScaled}
 use Rattle.exact.specs.Private.Ranges.{InRange}
 use Rattle.exact.specs.Private.Round.{round, pack, finish, spare, inexact}
 use Rattle.exact.proofs.Order.{at-least-up}
+use Rattle.encounter.proofs.calls.Classes.{is-alert, is-open, is-clear}
 use borrow.Author.Needs.{needs}
 use Rattle.encounter.proofs.calls.ends.classify.Statement.{statement}
 use Rattle.encounter.proofs.calls.ends.classify.Tie as tie
@@ -35,20 +35,31 @@ scale : (x : Frac) → at-most (1 over alert-odds) x ≡ at-most (whole 1) (x �
 unfolding at-most _over_ _⊗_ whole
 scale x = rw (mul-one (x .den), mul-one (x .num * alert-odds))
 
-test-is : {x : Scaled} {r : Bool} → IsScaled 32 x → r ≡ at-most (value threshold) (value x) → r ≡ alert x
+-- what the code tests of an end
+test-is : {x : Scaled} {r : Bool} → IsScaled 32 x → r ≡ at-most (value threshold) (value x) → alert (value x) ≡ r
 unfolding alert
-test-is {x} n e = e ∙ rw (← threshold-is) (at-least-up 32 (1 over alert-odds) (lit< tt) n) ∙ scale (value x)
+test-is {x} n e = sym (e ∙ rw (← threshold-is) (at-least-up 32 (1 over alert-odds) (lit< tt) n) ∙ scale (value x))
 
 at-most-requires : tie.Need-at-most-requires
 at-most-requires c κs = search (threshold-in, needs)
 
 returns : tie.Need-returns
-unfolding class-of
-returns c = rw (← test-is (c .before .before .pre .0 .is-scaled) (c .before .at-most .ensures), c .if1 .taken)
+returns c =
+    let z = c .before .before in
+    is-alert (z .args .lower) (z .args .upper) (test-is (z .pre .0 .is-scaled) (c .before .at-most .ensures) ∙ c .if1 .taken)
+
+at-most-requires-2 : tie.Need-at-most-requires-2
+at-most-requires-2 c κs = search (threshold-in, needs)
 
 returns-2 : tie.Need-returns-2
-unfolding class-of
-returns-2 c = rw (← test-is (c .before .before .pre .0 .is-scaled) (c .before .at-most .ensures), c .if1 .left)
+returns-2 c =
+    let z = c .before .before .before .before in
+    is-open (z .args .lower) (z .args .upper) (test-is (z .pre .0 .is-scaled) (c .before .before .before .at-most .ensures) ∙ c .before .before .if1 .left) (test-is (z .pre .1 .is-scaled) (c .before .at-most2 .ensures) ∙ c .if2 .taken)
+
+returns-3 : tie.Need-returns-3
+returns-3 c =
+    let z = c .before .before .before .before in
+    is-clear (z .args .lower) (z .args .upper) (test-is (z .pre .0 .is-scaled) (c .before .before .before .at-most .ensures) ∙ c .before .before .if1 .left) (test-is (z .pre .1 .is-scaled) (c .before .at-most2 .ensures) ∙ c .if2 .left)
 
 pub classify-spec : {M : Type 1} → statement M
-classify-spec = tie.close (tie.spec at-most-requires returns returns-2)
+classify-spec = tie.close (tie.spec at-most-requires returns at-most-requires-2 returns-2 returns-3)
