@@ -147,7 +147,7 @@ def main():
     reads = sum(call[0] == "read" and a[0] == 0 for call, a in zip(calls, due))
     refusals = collections.Counter(a[0] for a in due if a[0])
     counts = ", ".join(f"{n} of {r}" for r, n in sorted(refusals.items()))
-    print(f"{given.count} encounters, {len(calls)} calls, {reads} reads; refusals: {counts}")
+    print(f"{len(AT_THRESHOLD) + given.count} encounters, {len(calls)} calls, {reads} reads; refusals: {counts}")
     names = [given.contender] if given.contender else output([given.bench, "--names"])
     failures = 0
     for name in names:

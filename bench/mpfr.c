@@ -9,7 +9,7 @@ static void make(void)
     mpfr_inits2(32, b, zx, zy, g, r, hv, hy, a, w, threshold, (mpfr_ptr)0);
     /* whole numbers below 2^48 are exact here */
     mpfr_inits2(64, numerator, denominator, (mpfr_ptr)0);
-    /* a lower end of 32 bits is at least 1/10,000 just where it is at least U(1/10,000) */
+    /* an end of 32 bits is at least 1/10,000 just where it is at least U(1/10,000) */
     mpfr_set_ui(threshold, 1, MPFR_RNDU);
     mpfr_div_ui(threshold, threshold, 10000, MPFR_RNDU);
     made = 1;

@@ -5,7 +5,7 @@ import math
 import exact_series
 from encounters import PROBABILITY
 from exact_series import at_most, scaled_pair
-from reference import ALERT_FACTOR, EXPONENTIAL_CUT
+from reference import THRESHOLD_FACTOR, EXPONENTIAL_CUT
 
 # The least cut of the exponential, the next one, and one where it has converged.
 CUTS = (EXPONENTIAL_CUT, EXPONENTIAL_CUT + 1, 2 * EXPONENTIAL_CUT)
@@ -43,17 +43,17 @@ def within_closeness(answer):
     return is_near(answer, 31, 18 * answer.N + 2600)
 
 
-def reaches_alert(end):
+def reaches_threshold(end):
     """Whether the end × 10,000 is at least 1."""
-    return at_most((1, ALERT_FACTOR), scaled_pair(end))
+    return at_most((1, THRESHOLD_FACTOR), scaled_pair(end))
 
 
 def has_its_class(answer):
     """Whether the ends fall under the answer's class, and under no other."""
     falls_under = {
-        "alert": reaches_alert(answer.lower),
-        "clear": not reaches_alert(answer.upper),
-        "open": not reaches_alert(answer.lower) and reaches_alert(answer.upper),
+        "alert": reaches_threshold(answer.lower),
+        "clear": not reaches_threshold(answer.upper),
+        "open": not reaches_threshold(answer.lower) and reaches_threshold(answer.upper),
     }
     return [name for name, holds in falls_under.items() if holds] == [answer.class_name]
 

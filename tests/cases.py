@@ -4,8 +4,9 @@
     python3 tests/cases.py
 
 For each encounter: the least order N at which a read is accepted, or the refusal that is due; at that
-order and at two later ones the exact quotients are between the two ends. Then document 01's "Encounters on
-each edge". Exits with 1 where anything differs.
+order and at two later ones the exact quotients are between the two ends, and the class is that of the ends.
+Then encounters with an end next to 1/10,000, and document 01's "Encounters on each edge". Exits with 1 where
+anything differs.
 """
 
 import sys
@@ -18,10 +19,10 @@ import exact_series
 import orders
 from brackets import as_float
 from checks import Checks
-from encounters import DOCUMENTS, EDGES, FULL, HALF, IN_CENTIMETRES
+from encounters import AT_THRESHOLD, DOCUMENTS, EDGES, FULL, HALF, IN_CENTIMETRES
 from exact_series import Encounter
 from orders import at_order
-from reference import LARGEST_N, LARGEST_T, Answer, Session
+from reference import LARGEST_N, LARGEST_T, THRESHOLD_FACTOR, Answer, Session
 from rounded import DOWN, UP
 from scaled import LEAST, ZERO
 
@@ -70,7 +71,7 @@ def tabulate(name, encounter):
     if not answers:
         return f"{row}   refused 23 at {LARGEST_N}"
     for answer, close in answers:
-        edge(answer.refusal == 0, f"{name}: {answer}")
+        edge(answer.refusal == 0 and brackets.has_its_class(answer), f"{name}: {answer}")
         if close:
             checks.check(brackets.within_closeness(answer), "closeness bounds", f"{name}: closeness at {answer.N}")
 
@@ -95,6 +96,15 @@ def table():
         print(tabulate(name, encounter))
     for name, given in IN_CENTIMETRES.items():
         edge(DOCUMENTS[name] == given, f"{name}: {DOCUMENTS[name]} is not document 01's {given}")
+
+
+def at_threshold():
+    """Each end next to 1/10,000, on each side of it."""
+    for inputs, end, side, name in AT_THRESHOLD:
+        answer = orders.begun(inputs).read()
+        nearest = (DOWN if side == "below" else UP).ratio(1, THRESHOLD_FACTOR)
+        edge((getattr(answer, end), answer.class_name) == (nearest, name), f"{inputs}: {answer}")
+        edge(brackets.has_its_class(answer), f"{inputs}: class")
 
 
 def on_edges():
@@ -127,6 +137,7 @@ def on_edges():
 
 def main():
     table()
+    at_threshold()
     on_edges()
     checks.end()
 

@@ -93,7 +93,7 @@ AT_THRESHOLD = [
 ]
 # The ends are on both sides of 1/10,000 at every order.
 ASTRIDE = Encounter(1302, 92063, 92063, 0, 0)
-# Clear at N = 20; at N = 200 rounding has lifted the upper end to 1/10,000.
+# Clear from N = 4 to 27; then rounding has lifted the upper end to 1/10,000.
 CLEAR_THEN_OPEN = Encounter(41542, 1971888, 697351, 0, 1336914)
 
 # The probability to the printed digits. Document 001, Table 3, "Reference": Chan 1 to 12, whose inputs are

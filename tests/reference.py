@@ -18,7 +18,7 @@ LONGEST_SCRIPT = 65_536
 # The rounded exponential sums have the terms r(0) to r(255), and r(256) is the next one.
 EXPONENTIAL_CUT = 256
 # Request #101: "Alert remains where the lower end × 10,000 ≥ 1. Clear now needs the upper end × 10,000 below 1."
-ALERT_FACTOR = 10_000
+THRESHOLD_FACTOR = 10_000
 
 # Both tables of refusals, in their order.
 REFUSALS = {
@@ -121,9 +121,9 @@ class Answer(NamedTuple):
 
 def class_of(lower, upper):
     """Request #101, the class of two ends: "Anything between is `open`"."""
-    if at_least(lower, 1, ALERT_FACTOR):
+    if at_least(lower, 1, THRESHOLD_FACTOR):
         return "alert"
-    return "open" if at_least(upper, 1, ALERT_FACTOR) else "clear"
+    return "open" if at_least(upper, 1, THRESHOLD_FACTOR) else "clear"
 
 
 # "It starts empty, with zero in every field." An encounter is begun just where N is not 0.

@@ -43,7 +43,7 @@ from encounters import (
 )
 from exact_series import Encounter
 from records import MOST_COUNT
-from reference import ALERT_FACTOR, LARGEST, LARGEST_N, Answer, Session
+from reference import THRESHOLD_FACTOR, LARGEST, LARGEST_N, Answer, Session
 from rounded import DOWN, UP
 
 # The calls.
@@ -183,16 +183,13 @@ def at_test_23(rng):
 
 def at_classes(rng):
     """Each end next to 1/10,000, on both sides of it, and encounters beside these."""
-    for inputs, end, side, name in AT_THRESHOLD:
-        answer = orders.begun(inputs).read()
-        nearest = (DOWN if side == "below" else UP).ratio(1, ALERT_FACTOR)
-        assert (getattr(answer, end), answer.class_name) == (nearest, name)
+    for inputs, *_ in AT_THRESHOLD:
         yield [begin(*inputs), READ, add(1), READ, add(5), READ]
         for near in range(-5, 6):
             yield [begin(*inputs._replace(sx=inputs.sx + near)), READ]
     yield [begin(*ASTRIDE), READ, add(1), READ, add(12), READ, add(50), READ]
-    assert [orders.at_order(CLEAR_THEN_OPEN, N).read().class_name for N in (20, 200)] == ["clear", "open"]
-    yield [begin(*CLEAR_THEN_OPEN), add(19), READ, add(180), READ]
+    assert [orders.at_order(CLEAR_THEN_OPEN, N).read().class_name for N in (27, 28)] == ["clear", "open"]
+    yield [begin(*CLEAR_THEN_OPEN), add(26), READ, add(1), READ]
 
 
 def of_documents(rng):

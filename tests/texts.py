@@ -258,12 +258,30 @@ def of_figures():
     same("README", text, (f"{float(wide) * 1e6:.1f}", text in README), ("1.7", True))
 
 
+def classes(encounter):
+    """The orders at which the class is another than before, each with the class, or the refusal's number."""
+    session, found = orders.begun(encounter), []
+    while True:
+        answer = session.read()
+        said = answer.refusal or answer.class_name
+        if not found or found[-1][1] != said:
+            found.append((session.N, said))
+        if session.N == LARGEST_N:
+            return found
+        session.add(1)
+
+
 def of_classes():
-    """README: rounding may open a clear encounter again."""
-    text = "(41542, 1971888, 697351, 0, 1336914) is `clear` at N = 20 and `open` at N = 200"
-    found = [orders.at_order(CLEAR_THEN_OPEN, N).read().class_name for N in (20, 200)]
+    """What README and examples/open-class.md say of the class at every order."""
     inputs = ", ".join(map(str, CLEAR_THEN_OPEN))
-    same("README", text, (found, f"({inputs}) is" in text, text in README), (["clear", "open"], True, True))
+    text = f"({inputs}), whose 3M + 13 is 13.02, is clear from N = 4 to 27 and open from 28 on"
+    M = f"{float(3 * value(orders.begun(CLEAR_THEN_OPEN).M) + 13):.2f}"
+    found = classes(CLEAR_THEN_OPEN), M, text in README
+    same("README", text, found, ([(1, "open"), (4, "clear"), (28, "open")], "13.02", True))
+    script = (EXAMPLES / "open-class.script").read_bytes()
+    begun = [Encounter(*record.inputs) for record in records.records(script) if len(record.inputs) == 5]
+    due = [[(1, "open"), (2, "alert")], [(1, 23), (2, "open"), (5, "clear")], [(1, "open")]]
+    same("examples", "open-class, classes", list(map(classes, begun)), due)
 
 
 def of_lower_ends():

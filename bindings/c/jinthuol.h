@@ -67,8 +67,8 @@ typedef struct {
     uint32_t words[56];
 } jinthuol_session;
 
-/* The class, by both ends and 1/10,000. Clear: the upper end is below it. Alert: the lower end is at least that. Open: neither, so the probability may
- * be on either side; add terms and read again. */
+/* The class, by both ends and 1/10,000. Clear: the upper end is below it. Alert: the lower end is at least that. Open: neither, so this read does not
+ * tell on which side the probability is; a read with some terms more may (README.md, 'A line of a listing'). */
 enum { JINTHUOL_CLEAR = 0, JINTHUOL_ALERT = 1, JINTHUOL_OPEN = 2 };
 
 /* The refusal's number, or 0; then the order N, both ends and the class. A refusal has zero in every other field; an accepted begin or add has

@@ -73,7 +73,7 @@ pub enum Class {
     Clear,
     /// The lower end is at least 1/10,000, and so is the probability.
     Alert,
-    /// Neither: the probability may be on either side. Add terms and read again.
+    /// Neither: this read does not tell on which side the probability is. A read with some terms more may.
     Open,
 }
 

@@ -5,7 +5,7 @@ use Prim.Native.Nat.{ℕ, suc, _-_, _*_, _≤_, _<_}
 use lib.IntN.{pos, _-ℤ_}
 use Rattle.exact.specs.declared.Encounter.{Encounter}
 use Rattle.exact.specs.declared.Scaled.{Scaled}
-use Rattle.exact.specs.Fraction.{Frac, _≈_, _⊗_, _÷_, whole, sum}
+use Rattle.exact.specs.Fraction.{Frac, _≼_, _≈_, _⊗_, _÷_, whole, sum}
 use Rattle.exact.specs.Numbers.{exponential-cut}
 use Rattle.exact.specs.Private.Round.{round}
 use Rattle.exact.specs.Scaled.{IsRound, value, half, double}
@@ -28,6 +28,11 @@ pub record Unrounded (E : Encounter) : Type 0 where
   -- M is F(0)
   pub bound-is : bound same same (letters same same E) ≈ F E 0
 
+-- a session from these calls, on which a read is accepted
+pub record Readable (s : Session) : Type 0 where
+  pub reached : Reached s
+  pub accepted : call reads s .answer .refusal ≡ 0
+
 -- request #101, of the answer a of an accepted read, where the encounter and the order are E and N
 pub record Classed (E : Encounter) (N : ℕ) (a : Answer) : Type 0 where
   -- the ends fall under the answered class, and under no other
@@ -36,8 +41,8 @@ pub record Classed (E : Encounter) (N : ℕ) (a : Answer) : Type 0 where
   -- alert and clear never both hold
   pub never-both : alert (value (a .lower)) ≡ true → clear (value (a .upper)) ≡ false
   -- "clear only if it is clear at its worst": at whatever later point the two exact sums are cut, their quotient is what the class says
-  pub alert-stays : a .class ≡ Alert → (N′ K : ℕ) → N ≤ N′ → exponential-cut ≤ K → alert (quotient E N′ K) ≡ true
-  pub clear-stays : a .class ≡ Clear → (N′ K : ℕ) → N ≤ N′ → exponential-cut ≤ K → clear (quotient E N′ K) ≡ true
+  pub quotient-alert : a .class ≡ Alert → (N′ K : ℕ) → N ≤ N′ → exponential-cut ≤ K → alert (quotient E N′ K) ≡ true
+  pub quotient-clear : a .class ≡ Clear → (N′ K : ℕ) → N ≤ N′ → exponential-cut ≤ K → clear (quotient E N′ K) ≡ true
 
 pub record Claims : Type 0 where
   -- "D(q) is the greatest scaled number not above [..] q. U(q) is the least one not below it": round computes them, and there is no other
@@ -57,8 +62,12 @@ pub record Claims : Type 0 where
   pub mirror-add : (E : Encounter) (N count : ℕ) → call (adds count) (state (mirrored E) N) .answer ≡ call (adds count) (state E N) .answer
   pub mirror-read : (E : Encounter) (N : ℕ) → call reads (state (mirrored E) N) .answer ≡ call reads (state E N) .answer
   -- request #101: the class of every accepted read
-  pub classes : {s : Session} → Reached s → call reads s .answer .refusal ≡ 0 → Classed (s .encounter) (s .N) (call reads s .answer)
-  -- two reads of one encounter, at whatever orders, are never one alert and one clear
+  pub classes : {s : Session} → Readable s → Classed (s .encounter) (s .N) (call reads s .answer)
+  -- of two accepted reads of one encounter, at whatever orders, never one is an alert and the other clear
   pub no-reversal :
-      {s s′ : Session} → Reached s → Reached s′ → s .encounter ≡ s′ .encounter → call reads s .answer .refusal ≡ 0 → call reads s′ .answer .refusal ≡ 0 →
-      call reads s .answer .class ≡ Alert → call reads s′ .answer .class ≡ Clear → ⊥
+      {s s′ : Session} → Readable s → Readable s′ → s .encounter ≡ s′ .encounter → call reads s .answer .class ≡ Alert → call reads s′ .answer .class ≡ Clear → ⊥
+  -- more terms do not lower the lower end, and an alert stays an alert
+  pub lower-end-grows :
+      {s s′ : Session} → Readable s → Readable s′ → s .encounter ≡ s′ .encounter → s .N ≤ s′ .N → value (call reads s .answer .lower) ≼ value (call reads s′ .answer .lower)
+  pub alert-remains :
+      {s s′ : Session} → Readable s → Readable s′ → s .encounter ≡ s′ .encounter → s .N ≤ s′ .N → call reads s .answer .class ≡ Alert → call reads s′ .answer .class ≡ Alert

@@ -1,4 +1,4 @@
--- Document 01, 'Script records': the session, empty and after a begin, and what is answered.
+-- Document 01, 'Script records': the session, empty and after a begin, and what is answered; the class by request #101 of document 02.
 use mathlib.Core.Bool.{Bool, true, false, cond, not, _&&_}
 use Prim.Native.Nat.{ℕ, pred}
 use lib.IntN.{pos}

@@ -190,6 +190,10 @@ pub quot-mono : {p q r s : Frac} → p ≼ q → s ≼ r → 0 < s .num → p �
 unfolding _⊘_
 quot-mono {p} {q} {r} {s} h k l = record { le = rw (suc-pred l, suc-pred (num-pos k l)) (omega (arith, mul-le-mul (h .le) (k .le))) }
 
+pub quot-left : (r : Frac) {p q : Frac} → p ≼ q → p ⊘ r ≼ q ⊘ r
+unfolding _⊘_
+quot-left r {p} {q} h = record { le = omega (arith, mul-le-mul-right (r .den * suc (pred (r .num))) (h .le)) }
+
 pub quot-mul : (p q : Frac) → 0 < q .num → p ⊘ q ⊗ q ≈ p
 unfolding _⊘_ _⊗_
 quot-mul p q l = record { eq = rw (suc-pred l) (omega arith) }

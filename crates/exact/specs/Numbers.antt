@@ -21,6 +21,6 @@ largest-order = 4096
 abbrev pub largest-script : ℕ
 largest-script = 65536
 
--- the class: alert is at 1 over this or above, clear is below it
-abbrev pub alert-odds : ℕ
-alert-odds = 10000
+-- the class: the threshold is 1 over this. Alert is at the threshold or above, clear is below it
+abbrev pub threshold-odds : ℕ
+threshold-odds = 10000

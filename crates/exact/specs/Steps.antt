@@ -1,12 +1,12 @@
 -- Document 01, 'The rounded steps'. They are written once, over numbers S that have a value and a rounding `rnd`, which is the paper's D on the lower side and U
 -- on the upper; with the fractions themselves for S and no rounding the steps are the exact series (claim `unrounded`, encounter/specs/Claims.antt). Then, to 32 significant bits: both sides
--- of an encounter, the tail bound, the two ends at an order N, and the test of the class.
+-- of an encounter, the tail bound, the two ends at an order N, and the tests of the class (request #101 of document 02).
 use mathlib.Core.Bool.{Bool, true, false}
 use Prim.Native.Nat.{ℕ, zero, suc, pred, _*_}
 use Rattle.exact.specs.declared.Encounter.{Encounter}
 use Rattle.exact.specs.declared.Scaled.{Scaled}
 use Rattle.exact.specs.Fraction.{Frac, whole, _⊕_, _⊗_, _÷_, _⊘_, at-most, above}
-use Rattle.exact.specs.Numbers.{exponential-cut, alert-odds}
+use Rattle.exact.specs.Numbers.{exponential-cut, threshold-odds}
 use Rattle.exact.specs.Scaled.{one, value, D, U}
 use Rattle.exact.specs.Private.Round.{round}
 use Rattle.exact.specs.Series.{u, b, zx, zy, g, a₀}
@@ -169,8 +169,8 @@ module _ (E : Encounter) where
 
 -- Request #101, which replaces the class rule: "Alert remains where the lower end × 10,000 ≥ 1." Of any fraction, an end or a quotient
 unfoldable pub alert : Frac → Bool
-alert p = at-most (whole 1) (p ⊗ whole alert-odds)
+alert p = at-most (whole 1) (p ⊗ whole threshold-odds)
 
 -- "Clear now needs the upper end × 10,000 below 1."
 unfoldable pub clear : Frac → Bool
-clear p = above (whole 1) (p ⊗ whole alert-odds)
+clear p = above (whole 1) (p ⊗ whole threshold-odds)

@@ -14,15 +14,17 @@ use Rattle.exact.specs.Records.{read}
 use Rattle.exact.specs.Refusals.{Accepted, History, refuses-23, refusal}
 use Rattle.exact.proofs.Accepted.{passed}
 use Rattle.exact.proofs.Enclosure.{enclosed}
+use Rattle.exact.proofs.Growing.{lower-end-grows}
 use Rattle.exact.proofs.Fractions.{≼-refl, ≼-trans, mul-mono}
 use Rattle.exact.proofs.Order.{at-most-yes, at-most-holds}
 use Rattle.encounter.specs.declared.state.Session.{Session}
 use Rattle.encounter.specs.declared.state.Answer.{Answer}
+use Rattle.encounter.specs.declared.state.Called.{Called}
 use Rattle.encounter.specs.declared.state.Class.{Class}
 use Rattle.encounter.specs.declared.state.Class.the-variants.{Clear, Alert, Open}
 use Rattle.encounter.specs.Session.{state, falls-under, class-of, bracket}
-use Rattle.encounter.specs.Calls.{outcome, reads, call, Reached}
-use Rattle.encounter.specs.Claims.{Classed}
+use Rattle.encounter.specs.Calls.{outcome, reads, call}
+use Rattle.encounter.specs.Claims.{Readable, Classed}
 use Rattle.encounter.proofs.calls.Invariant.{Whole, nothing, at, by-history, number, whole}
 
 -- a fraction is clear just where it is no alert
@@ -101,26 +103,50 @@ module _ {E : Encounter} (h : Accepted E) (N : ℕ) (l : 1 ≤ N) (r : refuses-2
         its-own = own;
         no-other = no-other _ _ in-order;
         never-both = never-both _ _ in-order;
-        alert-stays = λ e N′ K n k. alert-up (enclosed h N l r N′ K n k .0) (unfold falls-under in rw e at own);
-        clear-stays = λ e N′ K n k. clear-down (enclosed h N l r N′ K n k .1) (unfold falls-under in rw e at own);
+        quotient-alert = λ e N′ K n k. alert-up (enclosed h N l r N′ K n k .0) (unfold falls-under in rw e at own);
+        quotient-clear = λ e N′ K n k. clear-down (enclosed h N l r N′ K n k .1) (unfold falls-under in rw e at own);
       }
 
-of-history : {s : Session} {w : History} → Whole s w → refusal w read ≡ 0 → Classed (s .encounter) (s .N) (outcome w read s .answer)
-of-history nothing z = unfold refusal in absurd (let f : ⊥ = omega (arith, z) in f)
-of-history (at {E} {N} h l u) z = unfold outcome refusal state in rw z (of-read h N l (passed 22 (refuses-23 E N) 0 (unfold refusal in z) .0))
+-- what a read is that is accepted
+record ReadOf (s : Session) : Type 0 where
+  fine : Accepted (s .encounter)
+  low : 1 ≤ s .N
+  passes : refuses-23 (s .encounter) (s .N) ≡ false
+  is : call reads s .answer ≡ bracket (s .encounter) (s .N)
 
-pub classes : {s : Session} → Reached s → call reads s .answer .refusal ≡ 0 → Classed (s .encounter) (s .N) (call reads s .answer)
-classes {s} r z = let (w, h) = whole r in rw (by-history h reads) (of-history h (sym (number h read) ∙ rw (by-history h reads) at z))
+of-history : {s : Session} {w : History} → Whole s w → refusal w read ≡ 0 → call reads s ≡ outcome w read s → ReadOf s
+of-history nothing z e = unfold refusal in absurd (let f : ⊥ = omega (arith, z) in f)
+of-history (at {E} {N} h l u) z e = unfold state in record {
+  fine = h;
+  low = l;
+  passes = passed 22 (refuses-23 E N) 0 (unfold refusal in z) .0;
+  is = ap (λ (r : Called). r .answer) e ∙ unfold outcome in rw z;
+}
+
+read-of : {s : Session} → Readable s → ReadOf s
+read-of r = let (w, h) = whole (r .reached) in of-history h (sym (number h read) ∙ rw (by-history h reads) at (r .accepted)) (by-history h reads)
+
+pub classes : {s : Session} → Readable s → Classed (s .encounter) (s .N) (call reads s .answer)
+classes {s} r = let f = read-of r in rw (f .is) (of-read (f .fine) (s .N) (f .low) (f .passes))
+
+-- ---- two reads of one encounter
 
 -- what is alert is not clear
 apart : (p : Frac) → alert p ≡ true → clear p ≡ true → ⊥
 apart p a c = false≢true (sym (clear-is p ∙ ap not a) ∙ c)
 
-pub no-reversal :
-    {s s′ : Session} → Reached s → Reached s′ → s .encounter ≡ s′ .encounter → call reads s .answer .refusal ≡ 0 → call reads s′ .answer .refusal ≡ 0 →
-    call reads s .answer .class ≡ Alert → call reads s′ .answer .class ≡ Clear → ⊥
-no-reversal {s} {s′} r r′ e z z′ a c =
-    let N = s .N + s′ .N in
-    apart (quotient (s .encounter) N exponential-cut)
-    (classes r z .alert-stays a N exponential-cut (omega arith) (omega arith))
-    (rw e (classes r′ z′ .clear-stays c N exponential-cut (omega arith) (omega arith)))
+module _ {s s′ : Session} (r : Readable s) (r′ : Readable s′) (e : s .encounter ≡ s′ .encounter) where
+  pub no-reversal : call reads s .answer .class ≡ Alert → call reads s′ .answer .class ≡ Clear → ⊥
+  no-reversal a c =
+      let N = s .N + s′ .N in
+      apart (quotient (s .encounter) N exponential-cut)
+      (classes r .quotient-alert a N exponential-cut (omega arith) (omega arith))
+      (rw e (classes r′ .quotient-clear c N exponential-cut (omega arith) (omega arith)))
+
+  module _ (l : s .N ≤ s′ .N) where
+    pub grows : value (call reads s .answer .lower) ≼ value (call reads s′ .answer .lower)
+    unfolding bracket
+    grows = rw (read-of r .is, read-of r′ .is, e) (lower-end-grows (s′ .encounter) (s .N) (s′ .N) l)
+
+    pub alert-remains : call reads s .answer .class ≡ Alert → call reads s′ .answer .class ≡ Alert
+    alert-remains a = sym (classes r′ .no-other Alert (unfold falls-under in alert-up grows (unfold falls-under in rw a at (classes r .its-own))))

@@ -8,7 +8,7 @@ use lib.IntN.{negsuc}
 use lib.Ieee.{size, span, climb}
 use Rattle.exact.specs.declared.Scaled.{Scaled}
 use Rattle.exact.specs.Fraction.{Frac, whole, _over_, _⊗_, at-most}
-use Rattle.exact.specs.Numbers.{alert-odds}
+use Rattle.exact.specs.Numbers.{threshold-odds}
 use Rattle.exact.specs.Steps.{alert}
 use Rattle.exact.specs.Scaled.{scaled, value, IsScaled}
 use Rattle.exact.specs.Private.Ranges.{InRange}
@@ -23,7 +23,7 @@ abbrev threshold : Scaled
 threshold = scaled 3518437209 (negsuc 44)
 
 -- the constant is U(1/10,000)
-threshold-is : round true 32 (1 over alert-odds) ≡ threshold
+threshold-is : round true 32 (1 over threshold-odds) ≡ threshold
 unfolding round pack finish spare inexact _over_ size span climb
 threshold-is = refl
 
@@ -31,14 +31,14 @@ threshold-in : InRange 32 (2 ^ 28) threshold
 threshold-in = record { is-scaled = inr (record { low = lit≤ tt; high = lit< tt }); above = lit≤ tt; below = lit≤ tt }
 
 -- at least 1/10,000 is 10,000 times at least 1
-scale : (x : Frac) → at-most (1 over alert-odds) x ≡ at-most (whole 1) (x ⊗ whole alert-odds)
+scale : (x : Frac) → at-most (1 over threshold-odds) x ≡ at-most (whole 1) (x ⊗ whole threshold-odds)
 unfolding at-most _over_ _⊗_ whole
-scale x = rw (mul-one (x .den), mul-one (x .num * alert-odds))
+scale x = rw (mul-one (x .den), mul-one (x .num * threshold-odds))
 
 -- what the code tests of an end
 test-is : {x : Scaled} {r : Bool} → IsScaled 32 x → r ≡ at-most (value threshold) (value x) → alert (value x) ≡ r
 unfolding alert
-test-is {x} n e = sym (e ∙ rw (← threshold-is) (at-least-up 32 (1 over alert-odds) (lit< tt) n) ∙ scale (value x))
+test-is {x} n e = sym (e ∙ rw (← threshold-is) (at-least-up 32 (1 over threshold-odds) (lit< tt) n) ∙ scale (value x))
 
 at-most-requires : tie.Need-at-most-requires
 at-most-requires c κs = search (threshold-in, needs)
