@@ -7,7 +7,6 @@ use lib.Dec.{lit<}
 use Rattle.exact.specs.declared.Encounter.{Encounter}
 use Rattle.exact.specs.Fraction.{Frac, _≼_}
 use Rattle.exact.specs.Scaled.{value, D, IsScaled}
-use Rattle.exact.specs.Private.Round.{round}
 use Rattle.exact.specs.Steps.{add, start, first, next, terms, side-start, side-terms, sum-to, lower-end}
 use Rattle.exact.proofs.Fractions.{≼-refl, ≼-trans, quot-left}
 use Rattle.exact.proofs.Rounding.{round-is, round-mono}

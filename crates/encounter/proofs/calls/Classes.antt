@@ -18,7 +18,6 @@ use Rattle.exact.proofs.Growing.{lower-end-grows}
 use Rattle.exact.proofs.Fractions.{≼-refl, ≼-trans, mul-mono}
 use Rattle.exact.proofs.Order.{at-most-yes, at-most-holds}
 use Rattle.encounter.specs.declared.state.Session.{Session}
-use Rattle.encounter.specs.declared.state.Answer.{Answer}
 use Rattle.encounter.specs.declared.state.Called.{Called}
 use Rattle.encounter.specs.declared.state.Class.{Class}
 use Rattle.encounter.specs.declared.state.Class.the-variants.{Clear, Alert, Open}

@@ -1,5 +1,5 @@
 -- Along every list of calls the session is empty, or it is the steps' state of the encounter and the order that the requests tell. From that, the demands.
-use mathlib.Core.Path.{_≡_, refl, sym, subst, ap, _∙_}
+use mathlib.Core.Path.{_≡_, refl, sym, ap}
 use mathlib.Core.Bool.{Bool, true, false, cond}
 use mathlib.Core.List.{List, [], _∷_}
 use Prim.Native.Nat.{ℕ, suc, _+_, _≤_}
@@ -11,7 +11,7 @@ use lib.Dec.{eqb}
 use Rattle.exact.specs.declared.Encounter.{Encounter}
 use Rattle.exact.specs.Numbers.{largest-order}
 use Rattle.exact.specs.Records.{Request, begin, add, read, bad}
-use Rattle.exact.specs.Refusals.{begin-refusal, Accepted, History, no-encounter, encounter-at, refuses-22, refuses-23, refusal}
+use Rattle.exact.specs.Refusals.{Accepted, History, no-encounter, encounter-at, refuses-22, refuses-23, refusal}
 use Rattle.exact.proofs.Accepted.{passed}
 use Rattle.exact.proofs.Enclosure.{enclosed}
 use Rattle.exact.proofs.Closeness.{ends-close}
