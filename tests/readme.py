@@ -14,7 +14,10 @@ from decimal import Decimal
 
 sys.dont_write_bytecode = True
 import options
+import orders
+from brackets import as_float
 from checks import Checks
+from encounters import ASTRIDE, DOCUMENTS, TEST_1
 from markdown import blocks, section
 from options import ROOT
 
@@ -33,22 +36,17 @@ def prints(command, due):
     checks.check(ok, "commands", f"{command}\n  found: {ended.returncode} {ended.stdout}{ended.stderr}\n    due: {due}")
 
 
-# The encounter of README's lines of C, and two of the other classes in its place, with what is printed.
-OF_C = [
-    ("{500, 5000, 100, 1000, 0}", "about 0.0764738853 to 0.0764738964, alert"),
-    ("{1000, 300000, 100000, 100000, 0}", "about 1.57657725e-05 to 1.57657749e-05, clear"),
-    ("{1302, 92063, 92063, 0, 0}", "about 9.99999907e-05 to 0.000100000004, open"),
-]
-
-
 def of_c(lines):
-    """The lines of C, in a program of their own, for an encounter of each class."""
+    """The lines of C, in a program of their own: with their encounter, and with others of each class in its place."""
     header, *code = lines
     source, program = ROOT / "target/readme.c", ROOT / "target/readme"
     compiler = "gcc -std=c99 -Wall -Wextra -Werror -I bindings/c target/readme.c target/staticlib/libjinthuol.a -lm"
-    for inputs, due in OF_C:
-        main = "\n".join(code).replace(OF_C[0][0], inputs)
-        checks.check(inputs in main, "commands", f"no encounter {inputs} in the lines of C")
+    braced = lambda encounter: "{%d, %d, %d, %d, %d}" % encounter
+    for encounter, class_ in (TEST_1, "alert"), (DOCUMENTS["Chan 5"], "clear"), (ASTRIDE, "open"):
+        read = orders.at_order(encounter, 55).read()
+        due = f"about {as_float(read.lower):.9g} to {as_float(read.upper):.9g}, {class_}"
+        main = "\n".join(code).replace(braced(TEST_1), braced(encounter))
+        checks.check(braced(encounter) in main, "commands", f"no encounter {encounter} in the lines of C")
         source.write_text("\n".join(["#include <math.h>", "#include <stdio.h>", header, "int main(void) {", main, "}"]))
         prints(f"{compiler} -o {program}", [])
         prints(str(program), [due])
