@@ -282,6 +282,21 @@ def of_classes():
     begun = [Encounter(*record.inputs) for record in records.records(script) if len(record.inputs) == 5]
     due = [[(1, "open"), (2, "alert")], [(1, 23), (2, "open"), (5, "clear")], [(1, "open")]]
     same("examples", "open-class, classes", list(map(classes, begun)), due)
+    # In ten-thousandths, three decimals outward: which encounter, its order, its end, and the text around.
+    text = (EXAMPLES / "open-class.md").read_text()
+    for which, N, end, around in (
+        (0, 1, "lower", "At N = 1 the ends are {} and"),
+        (0, 1, "upper", "and {} ten-thousandths: open"),
+        (0, 2, "lower", "lifts the lower end to {} ten-thousandths"),
+        (0, 18, "lower", "it is from {} to"),
+        (0, 18, "upper", "to {} ten-thousandths"),
+        (1, 5, "upper", "At N = 5 the upper end is {} ten-thousandths: clear"),
+        (1, 2, "upper", "the upper end was {} ten-thousandths"),
+    ):
+        thousandths = 10**7 * value(getattr(orders.at_order(begun[which], N).read(), end))
+        whole = math.floor(thousandths) if end == "lower" else math.ceil(thousandths)
+        said = around.format(f"{whole // 1000}.{whole % 1000:03}")
+        checks.check(said in text, "examples", f"open-class: {said}")
 
 
 def of_lower_ends():

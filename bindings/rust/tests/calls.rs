@@ -134,6 +134,16 @@ fn brackets() {
     assert_eq!([1, 2].map(|N| class(decided, N)), [Ok(Class::Open), Ok(Class::Alert)]);
     let astride = of(1302, 92063, 92063, 0, 0);
     assert_eq!([1, 60].map(|N| class(astride, N)), [Ok(Class::Open); 2]);
+    // The lower, then the upper end is next to 1/10,000, below it and above.
+    let at_threshold = [
+        (of(49648, 4009479, 1240824, 0, 1670613), Class::Open),
+        (of(56523, 3349850, 1200523, 0, 1993155), Class::Alert),
+        (of(31989, 4943591, 778307, 0, 588290), Class::Clear),
+        (of(29759, 4811676, 915563, 0, 94915), Class::Open),
+    ];
+    for (encounter, due) in at_threshold {
+        assert_eq!(class(encounter, 1), Ok(due));
+    }
     for N in [2110, 4096] {
         assert_eq!(at(FULL, N).read(), at(of(8, 1, 1, -8, 0), N).read());
     }

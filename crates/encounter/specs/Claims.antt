@@ -33,6 +33,12 @@ pub record Readable (s : Session) : Type 0 where
   pub reached : Reached s
   pub accepted : call reads s .answer .refusal ≡ 0
 
+-- two such sessions, of one encounter
+pub record OneEncounter (s s′ : Session) : Type 0 where
+  pub first : Readable s
+  pub second : Readable s′
+  pub same : s .encounter ≡ s′ .encounter
+
 -- request #101, of the answer a of an accepted read, where the encounter and the order are E and N
 pub record Classed (E : Encounter) (N : ℕ) (a : Answer) : Type 0 where
   -- the ends fall under the answered class, and under no other
@@ -64,10 +70,7 @@ pub record Claims : Type 0 where
   -- request #101: the class of every accepted read
   pub classes : {s : Session} → Readable s → Classed (s .encounter) (s .N) (call reads s .answer)
   -- of two accepted reads of one encounter, at whatever orders, never one is an alert and the other clear
-  pub no-reversal :
-      {s s′ : Session} → Readable s → Readable s′ → s .encounter ≡ s′ .encounter → call reads s .answer .class ≡ Alert → call reads s′ .answer .class ≡ Clear → ⊥
+  pub no-reversal : {s s′ : Session} → OneEncounter s s′ → call reads s .answer .class ≡ Alert → call reads s′ .answer .class ≡ Clear → ⊥
   -- more terms do not lower the lower end, and an alert stays an alert
-  pub lower-end-grows :
-      {s s′ : Session} → Readable s → Readable s′ → s .encounter ≡ s′ .encounter → s .N ≤ s′ .N → value (call reads s .answer .lower) ≼ value (call reads s′ .answer .lower)
-  pub alert-remains :
-      {s s′ : Session} → Readable s → Readable s′ → s .encounter ≡ s′ .encounter → s .N ≤ s′ .N → call reads s .answer .class ≡ Alert → call reads s′ .answer .class ≡ Alert
+  pub lower-end-never-falls : {s s′ : Session} → OneEncounter s s′ → s .N ≤ s′ .N → value (call reads s .answer .lower) ≼ value (call reads s′ .answer .lower)
+  pub alert-remains : {s s′ : Session} → OneEncounter s s′ → s .N ≤ s′ .N → call reads s .answer .class ≡ Alert → call reads s′ .answer .class ≡ Alert

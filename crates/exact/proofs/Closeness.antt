@@ -12,11 +12,11 @@ use Rattle.exact.proofs.Rounding.{slack}
 use Rattle.exact.specs.declared.Encounter.{Encounter}
 use Rattle.exact.specs.Steps.{same, add, mul, div, powers, next-power, side-letters, side-start, side-terms, side-powers, sum-to, tail-bound, exponential-with-tail, exponential-sum, r256, lower-end, upper-end}
 use Rattle.exact.specs.Refusals.{Accepted}
-use Rattle.exact.proofs.Fractions.{≼-refl, ≼-trans, ≼-of, ≽-of, add-mono, mul-mono, num-pos, quot-mono, quot-mul}
+use Rattle.exact.proofs.Fractions.{≼-refl, ≼-trans, ≼-of, ≽-of, add-mono, mul-mono, num-pos, quot-mono, quot-mul, drop-last}
 use Rattle.exact.proofs.Rounding.{round-close}
 use Rattle.exact.proofs.Powers.{Near, near-of, near-more, near-plus, near-times, near-share, pow-add, pow-square, pow-more, one-le-pow, grow}
 use Rattle.exact.proofs.Parallel.{Within, Close-letters, letters-close, start-close, terms-close, powers-close}
-use Rattle.exact.proofs.Enclosure.{up, one-is, drop-last, lower-powers-pos, lower-powers-le, le-upper-powers}
+use Rattle.exact.proofs.Enclosure.{up, one-is, lower-powers-pos, lower-powers-le, le-upper-powers}
 use Rattle.exact.proofs.Accepted.{facts}
 
 -- 1 + 2^-31

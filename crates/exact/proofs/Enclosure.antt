@@ -15,7 +15,7 @@ use Rattle.exact.specs.declared.Encounter.{Encounter}
 use Rattle.exact.specs.Series.{u, g, h, X, Y, t, a₀, factorial, exponential-term, series, exponential, quotient}
 use Rattle.exact.specs.Steps.{same, add, start, powers, next-power, bound, tail-term, next-d, mul, div, side-letters, side-start, side-terms, side-powers, sum-to, M, d, tail-bound, exponential-with-tail, exponential-sum, r256, lower-end, upper-end}
 use Rattle.exact.specs.Refusals.{refuses-23, Accepted}
-use Rattle.exact.proofs.Fractions.{≼-refl, ≼-trans, ≼-of, ≽-of, add-mono, mul-mono, div-mono, num-pos, quot-mono}
+use Rattle.exact.proofs.Fractions.{≼-refl, ≼-trans, never-falls, ≼-of, ≽-of, add-mono, mul-mono, div-mono, num-pos, quot-mono, drop-last}
 use Rattle.exact.proofs.Rounding.{round-is, round-close}
 use Rattle.exact.proofs.Order.{not-above}
 use Rattle.exact.proofs.Unrounded.{exact-letters, letters-are, sum-is, powers-are}
@@ -57,17 +57,8 @@ one-is = record { eq = refl }
 
 -- ---- sums cut later are no less
 
-pub drop-last : (s t : Frac) → s ≼ s ⊕ t
-unfolding _⊕_
-drop-last s t = record { le = omega arith }
-
-sum-more : (f : ℕ → Frac) (n j : ℕ) → sum f n ≼ sum f (n + j)
-unfolding sum
-sum-more f n zero = rw plus-zero (≼-refl _)
-sum-more f n (suc j) = rw add-suc (≼-trans (sum-more f n j) (drop-last _ _))
-
 sum-longer : (f : ℕ → Frac) (n n′ : ℕ) → n ≤ n′ → sum f n ≼ sum f n′
-sum-longer f n n′ l = let (j, q) = le-dest l in rw (← q) (sum-more f n j)
+sum-longer f n n′ l = never-falls (sum f) (λ k. unfold sum in drop-last _ _) n n′ l
 
 one-pos : 0 < (whole 1) .num
 unfolding whole

@@ -3,8 +3,8 @@
 use mathlib.Core.Path.{_≡_, refl, sym}
 use mathlib.Core.Logic.{_⊎_, inl, inr}
 use mathlib.Core.Bool.{Bool, true, false, not}
-use Prim.Native.Nat.{ℕ, zero, suc, pred, _*_, _≤_, _<_}
-use native.Mathlib.Nat.{mul-pos, le-of-mul-le-mul-right, lt-of-mul-lt-mul-right, mul-le-mul-right, mul-lt-mul-of-pos-right, mul-le-mul, le-of-eq, le-of-lt, le-antisymm, lt-irrefl, suc-pred-eq-of-pos}
+use Prim.Native.Nat.{ℕ, zero, suc, pred, _+_, _*_, _≤_, _<_}
+use native.Mathlib.Nat.{le-dest, add-suc, add-zero as plus-zero, mul-pos, le-of-mul-le-mul-right, lt-of-mul-lt-mul-right, mul-le-mul-right, mul-lt-mul-of-pos-right, mul-le-mul, le-of-eq, le-of-lt, le-antisymm, lt-irrefl, suc-pred-eq-of-pos}
 use native.Mathlib.Omega.{arith}
 use lib.Dec.{T, ltb, ltb→lt, nltb→le}
 use Rattle.exact.specs.Fraction.{Frac, _≼_, _≈_, whole, _⊕_, _⊗_, _÷_, _⊘_, _↑_, sum}
@@ -63,9 +63,21 @@ pub ≽-of : {p q : Frac} → p ≈ q → q ≼ p
 pub antisym : {p q : Frac} → p ≼ q → q ≼ p → p ≈ q
 antisym h k = record { eq = le-antisymm (h .le) (k .le) }
 
+-- a sequence that no step lowers, at a later place
+rises : (f : ℕ → Frac) → ((n : ℕ) → f n ≼ f (suc n)) → (n j : ℕ) → f n ≼ f (n + j)
+rises f h n zero = rw plus-zero (≼-refl _)
+rises f h n (suc j) = rw add-suc (≼-trans (rises f h n j) (h (n + j)))
+
+pub never-falls : (f : ℕ → Frac) → ((n : ℕ) → f n ≼ f (suc n)) → (n n′ : ℕ) → n ≤ n′ → f n ≼ f n′
+never-falls f h n n′ l = let (j, q) = le-dest l in rw (← q) (rises f h n j)
+
 pub add-mono : {p q r s : Frac} → p ≼ q → r ≼ s → p ⊕ r ≼ q ⊕ s
 unfolding _⊕_
 add-mono {p} {q} {r} {s} h k = record { le = omega (arith, mul-le-mul-right (r .den * s .den) (h .le), mul-le-mul-right (p .den * q .den) (k .le)) }
+
+pub drop-last : (s t : Frac) → s ≼ s ⊕ t
+unfolding _⊕_
+drop-last s t = record { le = omega arith }
 
 pub mul-mono : {p q r s : Frac} → p ≼ q → r ≼ s → p ⊗ r ≼ q ⊗ s
 unfolding _⊗_

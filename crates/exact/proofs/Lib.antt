@@ -15,7 +15,7 @@ pub mod Majorant
 pub mod Parallel
 pub mod Accepted
 pub mod Enclosure
-pub mod Growing
+pub mod LowerEnds
 pub mod Powers
 pub mod Closeness
 pub mod Exponents

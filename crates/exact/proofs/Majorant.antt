@@ -6,7 +6,7 @@ use Rattle.exact.specs.Fraction.{Frac, _≼_, _≈_, _⊕_, _⊗_, _÷_,
 use Rattle.exact.specs.declared.Encounter.{Encounter}
 use Rattle.exact.specs.Numbers.{largest-t, exponential-cut}
 use Rattle.exact.specs.Series.{factorial, dot, u, h, X, Y, a₀, F-without-Y, F, upto, a, c, exponential-term}
-use Rattle.exact.proofs.Fractions.{≼-refl, ≼-trans, ≼-of, ≽-of, add-mono, mul-mono, div-mono, pow-mono, mono, ≈-refl, ≈-sym, ≈-trans, cong, div-cong, mul-assoc, mul-add}
+use Rattle.exact.proofs.Fractions.{≼-refl, ≼-trans, ≼-of, ≽-of, add-mono, mul-mono, div-mono, pow-mono, mono, ≈-refl, ≈-sym, ≈-trans, cong, div-cong, mul-assoc, mul-add, drop-last}
 use Rattle.exact.proofs.ExactTerms.{factorial-step}
 use Rattle.exact.proofs.Unrounded.{power-step}
 
@@ -124,10 +124,6 @@ power-d a₀ M (suc n) =
     (≼-trans (≼-of (≈-trans (div-cong (factorial (suc n)) (slide a₀ M (M ↑ n))) (div-left (a₀ ⊗ M ↑ n) M (factorial (suc n))))) (mul-mono (power-d a₀ M n) (≼-refl M))))
 
 -- ---- a sum whose terms at least halve from N on
-
-drop-last : (s t : Frac) → s ≼ s ⊕ t
-unfolding _⊕_
-drop-last s t = record { le = omega arith }
 
 twice : (s d : Frac) → s ⊕ d ⊕ d ≼ s ⊕ whole 2 ⊗ d
 unfolding _⊕_ _⊗_ whole

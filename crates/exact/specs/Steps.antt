@@ -171,6 +171,6 @@ module _ (E : Encounter) where
 unfoldable pub alert : Frac → Bool
 alert p = at-most (whole 1) (p ⊗ whole threshold-odds)
 
--- "Clear now needs the upper end × 10,000 below 1."
+-- Request #101: "Clear now needs the upper end × 10,000 below 1."
 unfoldable pub clear : Frac → Bool
 clear p = above (whole 1) (p ⊗ whole threshold-odds)

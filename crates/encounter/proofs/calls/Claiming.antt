@@ -9,7 +9,7 @@ use Rattle.exact.proofs.Order.{half-exact, double-exact}
 use Rattle.exact.proofs.Unrounded.{letters-are, term-is, sum-is, powers-are, bound-is}
 use Rattle.encounter.specs.Claims.{Claims, Unrounded}
 use Rattle.encounter.proofs.calls.Stars.{stars-hold, mirror-begin, mirror-add, mirror-read}
-use Rattle.encounter.proofs.calls.Classes.{classes, no-reversal, grows, alert-remains}
+use Rattle.encounter.proofs.calls.Classes.{classes, no-reversal, never-falls, alert-remains}
 
 unrounded : (E : Encounter) → Unrounded E
 unfolding series exponential
@@ -35,6 +35,6 @@ claims = record {
   mirror-read = mirror-read;
   classes = classes;
   no-reversal = no-reversal;
-  lower-end-grows = grows;
+  lower-end-never-falls = never-falls;
   alert-remains = alert-remains;
 }

@@ -1,6 +1,6 @@
--- The class of two ends by cases, and that of an accepted read.
+-- The class of two ends by cases, that of an accepted read, and two reads of one encounter.
 use mathlib.Core.Path.{_≡_, refl, sym, _∙_, ap}
-use mathlib.Core.Bool.{Bool, true, false, not, _&&_, false≢true}
+use mathlib.Core.Bool.{Bool, true, false, not, _&&_, false≢true, Bool·not-not}
 use Prim.Native.Nat.{ℕ, _+_, _≤_}
 use native.Mathlib.Omega.{arith}
 use Rattle.exact.specs.declared.Encounter.{Encounter}
@@ -14,7 +14,7 @@ use Rattle.exact.specs.Records.{read}
 use Rattle.exact.specs.Refusals.{Accepted, History, refuses-23, refusal}
 use Rattle.exact.proofs.Accepted.{passed}
 use Rattle.exact.proofs.Enclosure.{enclosed}
-use Rattle.exact.proofs.Growing.{lower-end-grows}
+use Rattle.exact.proofs.LowerEnds.{lower-end-never-falls}
 use Rattle.exact.proofs.Fractions.{≼-refl, ≼-trans, mul-mono}
 use Rattle.exact.proofs.Order.{at-most-yes, at-most-holds}
 use Rattle.encounter.specs.declared.state.Session.{Session}
@@ -23,13 +23,16 @@ use Rattle.encounter.specs.declared.state.Class.{Class}
 use Rattle.encounter.specs.declared.state.Class.the-variants.{Clear, Alert, Open}
 use Rattle.encounter.specs.Session.{state, falls-under, class-of, bracket}
 use Rattle.encounter.specs.Calls.{outcome, reads, call}
-use Rattle.encounter.specs.Claims.{Readable, Classed}
+use Rattle.encounter.specs.Claims.{Readable, OneEncounter, Classed}
 use Rattle.encounter.proofs.calls.Invariant.{Whole, nothing, at, by-history, number, whole}
 
 -- a fraction is clear just where it is no alert
 clear-is : (p : Frac) → clear p ≡ not (alert p)
 unfolding clear above alert
 clear-is p = refl
+
+alert-is : (p : Frac) → alert p ≡ not (clear p)
+alert-is p = sym (Bool·not-not (alert p)) ∙ ap not (sym (clear-is p))
 
 module _ (x y : Scaled) where
   pub is-alert : alert (value x) ≡ true → Alert ≡ class-of x y
@@ -47,23 +50,22 @@ module _ (x y : Scaled) where
 
 -- ---- two ends in order
 
--- a larger fraction is an alert too, a smaller one clear too
+-- above an alert all are alerts and none is clear; below a clear fraction all are clear
 alert-up : {p q : Frac} → p ≼ q → alert p ≡ true → alert q ≡ true
 unfolding alert
 alert-up l a = at-most-yes _ _ (≼-trans (at-most-holds _ _ a) (mul-mono l (≼-refl _)))
 
+not-clear-up : {p q : Frac} → p ≼ q → alert p ≡ true → clear q ≡ false
+not-clear-up {q = q} l a = clear-is q ∙ ap not (alert-up l a)
+
 clear-down : {p q : Frac} → p ≼ q → clear q ≡ true → clear p ≡ true
-clear-down {p} {q} l c = clear-is p ∙ go (alert p) (alert q) (alert-up l) (sym (clear-is q) ∙ c)
+clear-down {p} {q} l c = clear-is p ∙ go (alert p) (not-clear-up l)
   where
-    go : (a b : Bool) → (a ≡ true → b ≡ true) → not b ≡ true → not a ≡ true
-    go true true f e = e
-    go true false f e = absurd (false≢true (f refl))
-    go false b f e = refl
+    go : (a : Bool) → (a ≡ true → clear q ≡ false) → not a ≡ true
+    go true f = absurd (false≢true (sym (f refl) ∙ c))
+    go false f = refl
 
 module _ (x y : Scaled) (l : value x ≼ value y) where
-  never-both : alert (value x) ≡ true → clear (value y) ≡ false
-  never-both a = clear-is (value y) ∙ ap not (alert-up l a)
-
   its-own : falls-under x y (class-of x y) ≡ true
   its-own = go (alert (value x)) (alert (value y)) refl refl
     where
@@ -75,12 +77,7 @@ module _ (x y : Scaled) (l : value x ≼ value y) where
   no-other : (k : Class) → falls-under x y k ≡ true → k ≡ class-of x y
   unfolding falls-under
   no-other Alert e = is-alert x y e
-  no-other Clear e = go (alert (value x)) (alert (value y)) refl refl (alert-up l) (sym (clear-is (value y)) ∙ e)
-    where
-      go : (a b : Bool) → alert (value x) ≡ a → alert (value y) ≡ b → (a ≡ true → b ≡ true) → not b ≡ true → Clear ≡ class-of x y
-      go a true ea eb f e = absurd (false≢true e)
-      go true false ea eb f e = absurd (false≢true (f refl))
-      go false false ea eb f e = is-clear x y ea eb
+  no-other Clear e = is-clear x y (alert-is (value x) ∙ ap not (clear-down l e)) (alert-is (value y) ∙ ap not e)
   no-other Open e = go (alert (value x)) (alert (value y)) refl refl (rw (clear-is (value y)) at e)
     where
       go : (a b : Bool) → alert (value x) ≡ a → alert (value y) ≡ b → not a && not (not b) ≡ true → Open ≡ class-of x y
@@ -101,7 +98,7 @@ module _ {E : Encounter} (h : Accepted E) (N : ℕ) (l : 1 ≤ N) (r : refuses-2
       record {
         its-own = own;
         no-other = no-other _ _ in-order;
-        never-both = never-both _ _ in-order;
+        never-both = not-clear-up in-order;
         quotient-alert = λ e N′ K n k. alert-up (enclosed h N l r N′ K n k .0) (unfold falls-under in rw e at own);
         quotient-clear = λ e N′ K n k. clear-down (enclosed h N l r N′ K n k .1) (unfold falls-under in rw e at own);
       }
@@ -130,22 +127,19 @@ classes {s} r = let f = read-of r in rw (f .is) (of-read (f .fine) (s .N) (f .lo
 
 -- ---- two reads of one encounter
 
--- what is alert is not clear
-apart : (p : Frac) → alert p ≡ true → clear p ≡ true → ⊥
-apart p a c = false≢true (sym (clear-is p ∙ ap not a) ∙ c)
-
-module _ {s s′ : Session} (r : Readable s) (r′ : Readable s′) (e : s .encounter ≡ s′ .encounter) where
+module _ {s s′ : Session} (t : OneEncounter s s′) where
   pub no-reversal : call reads s .answer .class ≡ Alert → call reads s′ .answer .class ≡ Clear → ⊥
   no-reversal a c =
       let N = s .N + s′ .N in
-      apart (quotient (s .encounter) N exponential-cut)
-      (classes r .quotient-alert a N exponential-cut (omega arith) (omega arith))
-      (rw e (classes r′ .quotient-clear c N exponential-cut (omega arith) (omega arith)))
+      let q = quotient (s .encounter) N exponential-cut in
+      let a′ : alert q ≡ true = classes (t .first) .quotient-alert a N exponential-cut (omega arith) (omega arith) in
+      let c′ : clear q ≡ true = rw (t .same) (classes (t .second) .quotient-clear c N exponential-cut (omega arith) (omega arith)) in
+      false≢true (sym (not-clear-up (≼-refl q) a′) ∙ c′)
 
   module _ (l : s .N ≤ s′ .N) where
-    pub grows : value (call reads s .answer .lower) ≼ value (call reads s′ .answer .lower)
+    pub never-falls : value (call reads s .answer .lower) ≼ value (call reads s′ .answer .lower)
     unfolding bracket
-    grows = rw (read-of r .is, read-of r′ .is, e) (lower-end-grows (s′ .encounter) (s .N) (s′ .N) l)
+    never-falls = rw (read-of (t .first) .is, read-of (t .second) .is, t .same) (lower-end-never-falls (s′ .encounter) (s .N) (s′ .N) l)
 
     pub alert-remains : call reads s .answer .class ≡ Alert → call reads s′ .answer .class ≡ Alert
-    alert-remains a = sym (classes r′ .no-other Alert (unfold falls-under in alert-up grows (unfold falls-under in rw a at (classes r .its-own))))
+    alert-remains a = sym (classes (t .second) .no-other Alert (unfold falls-under in alert-up never-falls (unfold falls-under in rw a at (classes (t .first) .its-own))))

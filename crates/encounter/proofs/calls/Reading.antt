@@ -1,6 +1,6 @@
 -- What a read forms of a session with an encounter: the fields, their ranges, and the two ends.
-use mathlib.Core.Path.{_≡_, refl, _∙_, ap}
-use mathlib.Core.Bool.{Bool, true, false, not}
+use mathlib.Core.Path.{_≡_, sym, _∙_, ap}
+use mathlib.Core.Bool.{Bool, true, false, not, Bool·not-not}
 use Prim.Native.Nat.{ℕ, pred, _+_, _^_, _≤_, _<_}
 use native.Mathlib.Omega.{arith}
 use lib.Dec.{lit<, lit≤}
@@ -13,13 +13,13 @@ use Rattle.exact.specs.Numbers.{exponential-cut, largest-order}
 use Rattle.exact.specs.declared.Encounter.{Encounter}
 use Rattle.exact.specs.Steps.{side-letters, side-powers, sum-to, M, d, tail-bound, exponential-with-tail, exponential-sum, r256, lower-end, upper-end}
 use Rattle.exact.specs.Refusals.{refuses-23}
-use Rattle.exact.proofs.Fractions.{≼-trans, num-pos}
+use Rattle.exact.proofs.Fractions.{≼-trans, num-pos, drop-last}
 use Rattle.exact.proofs.Rounding.{round-is}
 use Rattle.exact.proofs.Operations.{normal, whole-exact}
 use Rattle.exact.proofs.Order.{sum-double, double-exact, at-most-cong}
 use Rattle.exact.proofs.Ranges.{widen, sum-range, double-range, per-range}
 use Rattle.exact.proofs.Exponents.{letters-in, powers-in}
-use Rattle.exact.proofs.Enclosure.{up, drop-last, lower-powers-pos, lower-powers-le, le-upper-powers}
+use Rattle.exact.proofs.Enclosure.{up, lower-powers-pos, lower-powers-le, le-upper-powers}
 use Rattle.exact.proofs.Accepted.{facts}
 use Rattle.encounter.specs.declared.state.Session.{Session}
 use Rattle.encounter.specs.Session.{side, state}
@@ -28,8 +28,7 @@ use Rattle.encounter.proofs.steps.Opening.{one-in}
 use Rattle.encounter.proofs.steps.Progressing.{M-is, terms-fine, d-range}
 
 pub not-not : (b : Bool) → b ≡ not (not b)
-not-not true = refl
-not-not false = refl
+not-not b = sym (Bool·not-not b)
 
 -- a scaled number above 0 has its bits
 pub above-zero : {x : Scaled} → IsScaled 32 x → 0 < value x .num → Normal 32 x
