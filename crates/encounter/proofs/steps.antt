@@ -1,3 +1,4 @@
 pub mod Opening
 pub mod Progressing
 pub mod Pairs
+pub mod Rounds

@@ -6,25 +6,23 @@ use native.Mathlib.Omega.{arith}
 use lib.Dec.{lit<, lit≤}
 use Rattle.exact.specs.declared.Scaled.{Scaled}
 use Rattle.exact.specs.Fraction.{_≼_, whole, _⊕_, _⊘_, at-most, above}
-use Rattle.exact.specs.Scaled.{U, one, value, double, Normal, IsScaled}
+use Rattle.exact.specs.Scaled.{U, value, double, Normal, IsScaled}
 use Rattle.exact.specs.Private.Ranges.{InRange}
 use Rattle.exact.specs.Private.Round.{round}
 use Rattle.exact.specs.Numbers.{exponential-cut, largest-order}
 use Rattle.exact.specs.declared.Encounter.{Encounter}
-use Rattle.exact.specs.Steps.{side-letters, side-powers, sum-to, M, d, tail-bound, exponential-with-tail, exponential-sum, r256, lower-end, upper-end}
+use Rattle.exact.specs.Steps.{sum-to, M, d, tail-bound, exponential-with-tail, exponential-sum, r256, lower-end, upper-end}
 use Rattle.exact.specs.Refusals.{refuses-23}
 use Rattle.exact.proofs.Fractions.{≼-trans, num-pos, drop-last}
 use Rattle.exact.proofs.Rounding.{round-is}
 use Rattle.exact.proofs.Operations.{normal, whole-exact}
 use Rattle.exact.proofs.Order.{sum-double, double-exact, at-most-cong}
 use Rattle.exact.proofs.Ranges.{widen, sum-range, double-range, per-range}
-use Rattle.exact.proofs.Exponents.{letters-in, powers-in}
 use Rattle.exact.proofs.Enclosure.{up, lower-powers-pos, lower-powers-le, le-upper-powers}
-use Rattle.exact.proofs.Accepted.{facts}
 use Rattle.encounter.specs.declared.state.Session.{Session}
 use Rattle.encounter.specs.Session.{side, state}
 use Rattle.encounter.specs.Private.Held.{Begun}
-use Rattle.encounter.proofs.steps.Opening.{one-in}
+use Rattle.encounter.proofs.steps.Rounds.{powers-fine}
 use Rattle.encounter.proofs.steps.Progressing.{M-is, terms-fine, d-range}
 
 pub not-not : (b : Bool) → b ≡ not (not b)
@@ -67,15 +65,9 @@ module _ (s : Session) (b : Begun s) where
 
   -- ---- their ranges
 
-  powers-fine : (up : Bool) (k : ℕ) → k ≤ exponential-cut → (InRange 32 (2 ^ 22) (side-powers up E k .r)) × (InRange 32 (2 ^ 22) (side-powers up E k .sum))
-  unfolding side-powers side-letters
-  powers-fine up k l =
-      let q = powers-in up one _ one-in (letters-in up (facts (b .fine) .bounds) .t) k (omega arith) in
-      (widen (omega arith) (q .r), widen (omega arith) (q .sum))
-
   sum-fine : (up : Bool) → InRange 32 (2 ^ 22) (exponential-sum up E)
   unfolding exponential-sum
-  sum-fine up = powers-fine up (pred exponential-cut) (lit≤ tt) .1
+  sum-fine up = powers-fine up (b .fine) (pred exponential-cut) (lit≤ tt) .sum
 
   pub lower-sum-fine : InRange 32 (2 ^ 22) (s .lower .terms .sum)
   unfolding sum-to
@@ -98,7 +90,7 @@ module _ (s : Session) (b : Begun s) where
   upper-exponential-fine = rw upper-exponential-is (sum-fine true)
 
   pub r256-fine : InRange 32 (2 ^ 22) (s .r256)
-  r256-fine = rw r256-is (unfold r256 in powers-fine true exponential-cut (lit≤ tt) .0)
+  r256-fine = rw r256-is (unfold r256 in powers-fine true (b .fine) exponential-cut (lit≤ tt) .r)
 
   pub d-fine : InRange 32 (2 ^ 22) (s .d)
   d-fine = rw d-is (d-range s b (s .N) (b .high))

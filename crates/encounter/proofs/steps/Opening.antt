@@ -1,25 +1,21 @@
 -- What a begin forms, and that it is the session at order 1.
 use mathlib.Core.Path.{_≡_, refl, _∙_, ap}
 use mathlib.Core.Bool.{Bool, true, false}
-use mathlib.Core.Logic.{inr}
-use Prim.Native.Nat.{ℕ, pred, _+_, _^_, _≤_}
-use native.Mathlib.Numerals.{add-one}
-use native.Mathlib.Omega.{arith}
-use lib.Dec.{lit<, lit≤}
+use lib.Dec.{lit≤}
 use Rattle.exact.specs.declared.Scaled.{Scaled}
-use Rattle.exact.specs.Scaled.{one, value}
-use Rattle.exact.specs.Private.Ranges.{InRange, Bounds, Letters-in, Powers-in}
+use Rattle.exact.specs.Scaled.{value}
+use Rattle.exact.specs.Private.Ranges.{InRange, Bounds, Letters-in}
 use Rattle.exact.specs.Private.Round.{round}
 use Rattle.exact.specs.declared.Encounter.{Encounter}
-use Rattle.exact.specs.Numbers.{exponential-cut}
-use Rattle.exact.specs.Steps.{LettersOf, PowersOf, first, terms, next-d, tail-term, next-power, powers, bound, side-letters, side-start, side-terms, side-powers, exponential-sum, r256, M, d}
-use Rattle.exact.proofs.Ranges.{widen}
-use Rattle.exact.proofs.Exponents.{letters-in, start-in, tail-in, powers-in, bound-in}
+use Rattle.exact.specs.Refusals.{Accepted}
+use Rattle.exact.specs.Steps.{LettersOf, first, terms, next-d, tail-term, bound, side-letters, side-start, side-terms, exponential-sum, r256, M, d}
+use Rattle.exact.proofs.Exponents.{letters-in, start-in, tail-in, bound-in}
 use Rattle.encounter.specs.declared.state.Letters.{Letters}
 use Rattle.encounter.specs.declared.state.Side.{Side}
 use Rattle.encounter.specs.declared.state.Terms.{Terms}
 use Rattle.encounter.specs.Session.{state, side}
 use Rattle.encounter.specs.Private.Held.{held-letters, step-letters, held-terms}
+use Rattle.encounter.specs.Private.Loops.{T-of}
 
 pub letters-fine : (up : Bool) (E : Encounter) {l : Letters} → Bounds E → l ≡ held-letters (side-letters up E) → Letters-in (step-letters l)
 unfolding side-letters
@@ -28,18 +24,6 @@ letters-fine up E f e = rw e (letters-in up f)
 pub start-fine : (up : Bool) (E : Encounter) {c : Scaled} → Bounds E → c ≡ side-start up E → InRange 32 177 c
 unfolding side-start
 start-fine up E f e = rw e (start-in up f)
-
-pub one-in : InRange 32 400 one
-one-in = record { is-scaled = inr (record { low = lit≤ tt; high = lit< tt }); above = lit≤ tt; below = lit≤ tt }
-
-pub powers-fine : (up : Bool) (k : ℕ) {t : Scaled} {w : PowersOf Scaled} → k ≤ exponential-cut → InRange 32 387 t → w ≡ powers value (round up 32) one t k → Powers-in (2 ^ 22) w
-powers-fine up k {t} l i e =
-    let q = powers-in up one t one-in i k (omega arith) in
-    rw e (record { r = widen (omega arith) (q .r); sum = widen (omega arith) (q .sum) })
-
-pub powers-next : (up : Bool) (t : Scaled) (k : ℕ) {w w′ : PowersOf Scaled} → w ≡ powers value (round up 32) one t k → w′ ≡ next-power value (round up 32) one t k w → w′ ≡ powers value (round up 32) one t (k + 1)
-unfolding powers
-powers-next up t k e f = f ∙ rw (e, add-one)
 
 tail-one : (c M : Scaled) → tail-term value (round true 32) c M 1 ≡ next-d value (round true 32) M 0 c
 unfolding tail-term
@@ -59,19 +43,8 @@ pub first-side : (up : Bool) (E : Encounter) {l : Letters} {c x : Scaled} {s : T
 unfolding side side-terms
 first-side up E el ex ec es = rw (es, el, ex, ec, terms-zero up (side-letters up E) (side-start up E))
 
--- the exponential sums by the encounter's t
-pub sum-at : (up : Bool) (E : Encounter) {l : Letters} {x : Scaled} → l ≡ held-letters (side-letters up E)
-    → x ≡ powers value (round up 32) one (l .t) (pred exponential-cut) .sum → x ≡ exponential-sum up E
-unfolding exponential-sum side-powers
-sum-at up E el ex = ex ∙ rw el
-
-pub r256-at : (E : Encounter) {l : Letters} {x : Scaled} → l ≡ held-letters (side-letters true E)
-    → x ≡ powers value (round true 32) one (l .t) exponential-cut .r → x ≡ r256 E
-unfolding r256 side-powers
-r256-at E el ex = ex ∙ rw el
-
-pub t-fine : (up : Bool) (E : Encounter) {l : Letters} → Bounds E → l ≡ held-letters (side-letters up E) → InRange 32 387 (l .t)
-t-fine up E f e = letters-fine up E f e .t
+pub t-of : (E : Encounter) {lo hi : Letters} → Accepted E → lo ≡ held-letters (side-letters false E) → hi ≡ held-letters (side-letters true E) → T-of E (lo .t) (hi .t)
+t-of E a el eh = (a, ap (λ (l : Letters). l .t) el, ap (λ (l : Letters). l .t) eh)
 
 -- c(0) of a side at order 1
 start-of : (up : Bool) (E : Encounter) → side up E 1 .terms .c ≡ side-start up E

@@ -7,7 +7,9 @@ use lib.Ieee.{size}
 use Rattle.exact.specs.declared.Scaled.{Scaled}
 use Rattle.exact.specs.Scaled.{scaled}
 use Rattle.exact.specs.Private.Round.{pack}
-use Rattle.exact.specs.Steps.{LettersOf, TermsOf, PowersOf}
+use Rattle.exact.specs.declared.Encounter.{Encounter}
+use Rattle.exact.specs.Refusals.{Accepted}
+use Rattle.exact.specs.Steps.{LettersOf, TermsOf, PowersOf, side-letters, side-powers}
 use Rattle.encounter.specs.declared.arithmetic.wide.Wide.{Wide}
 use Rattle.encounter.specs.declared.arithmetic.wide.Reciprocal.{Reciprocal}
 use Rattle.encounter.specs.declared.steps.sides.Pair.{Pair}
@@ -49,3 +51,13 @@ terms-of up s = record { c = side-of up (s .c); p = side-of up (s .p); v = side-
 
 abbrev pub powers-of : Bool → PowerPairs → PowersOf Scaled
 powers-of up w = record { r = side-of up (w .r); sum = side-of up (w .sum) }
+
+-- a and b are the lower and the upper t of an accepted encounter
+abbrev pub T-of : Encounter → Scaled → Scaled → Type 0
+T-of E a b = (Accepted E) × (a ≡ side-letters false E .t) × (b ≡ side-letters true E .t)
+
+-- of an accepted encounter and on both sides, t is its t and w its r(k) with the sum of r(0) to r(k)
+pub record Powers-at (E : Encounter) (k : ℕ) (t : Pair) (w : PowerPairs) : Type 0 where
+  pub fine : Accepted E
+  pub t-is : (up : Bool) → side-of up t ≡ side-letters up E .t
+  pub powers-are : (up : Bool) → powers-of up w ≡ side-powers up E k

@@ -1,13 +1,14 @@
-// The exponentials of both sides, term by term.
+// The exponentials of both sides, round by round.
 ghost use mathlib.Core.Path.{_≡_};
 ghost use mathlib.Core.Bool.{Bool, true, false};
-ghost use Prim.Native.Nat.{pred, _^_, _<_};
-ghost use Rattle.exact.specs.Numbers.{exponential-cut, largest-order};
-ghost use Rattle.exact.specs.Scaled.{one, value};
-ghost use Rattle.exact.specs.Private.Ranges.{InRange, Powers-in};
+ghost use Prim.Native.Nat.{suc, pred, _^_, _<_};
+ghost use Rattle.exact.specs.declared.Encounter.{Encounter};
+ghost use Rattle.exact.specs.Numbers.{exponential-cut};
+ghost use Rattle.exact.specs.Scaled.{value};
+ghost use Rattle.exact.specs.Private.Ranges.{InRange};
 ghost use Rattle.exact.specs.Private.Round.{round};
-ghost use Rattle.exact.specs.Steps.{next-power, powers as powersOf};
-ghost use Rattle.encounter.specs.Private.Loops.{side-of, powers-of};
+ghost use Rattle.exact.specs.Steps.{mul, div, exponential-sum, r256 as r256Of};
+ghost use Rattle.encounter.specs.Private.Loops.{side-of, T-of, Powers-at};
 use crate::steps::sides::Pair;
 use crate::steps::sides::PowerPairs;
 use crate::steps::sides::overs;
@@ -21,26 +22,33 @@ use exact::Scaled;
 // The last k that is summed.
 const LAST: u64 = EXPONENTIAL_CUT - 1;
 
-// From k to k + 1.
-fn next(t: Pair, w: PowerPairs, k: u64) -> PowerPairs
-    requires { ⌜ (k < largest-order) × ((up : Bool) → InRange 32 387 (side-of up t)) × ((up : Bool) → Powers-in (2 ^ 22) (powers-of up w)) ⌝ }
-    ensures { λ r. ⌜ ((up : Bool) → powers-of up r ≡ next-power value (round up 32) one (side-of up t) k (powers-of up w)) ⌝ }
+// r(k + 1) from r(k).
+fn next_r(t: Pair, r: Pair, k: u64) -> Pair
+    requires { ⌜ (k < exponential-cut) × ((up : Bool) → (InRange 32 387 (side-of up t)) × (InRange 32 (2 ^ 22) (side-of up r))) ⌝ }
+    ensures { λ q. ⌜ ((up : Bool) → side-of up q ≡ div value (round up 32) (mul value (round up 32) (side-of up r) (side-of up t)) (suc k)) ⌝ }
 {
-    let r = overs(products(w.r, t), k + 1);
+    overs(products(r, t), k + 1)
+}
+
+// One round (request #102 of document 02): r and sum of both sides, of whichever encounter they are, from k to k + 1.
+fn one_round(t: Pair, w: PowerPairs, k: u64) -> PowerPairs
+    requires { ⌜ (k < exponential-cut) × ((E : Encounter) × Powers-at E k t w) ⌝ }
+    ensures { λ r. ⌜ ((E : Encounter) → Powers-at E k t w → Powers-at E (suc k) t r) ⌝ }
+{
+    let r = next_r(t, w.r, k);
     let sum = sums(w.sum, r);
     PowerPairs { r, sum }
 }
 
-// At k = LAST.
-fn exponential(t: Pair) -> PowerPairs
-    requires { ⌜ ((up : Bool) → InRange 32 387 (side-of up t)) ⌝ }
-    ensures { λ r. ⌜ ((up : Bool) → powers-of up r ≡ powersOf value (round up 32) one (side-of up t) (pred exponential-cut)) ⌝ }
+// The rounds from k = 0 to LAST.
+fn rounds(t: Pair, first: PowerPairs) -> PowerPairs
+    requires { ⌜ ((E : Encounter) × Powers-at E 0 t first) ⌝ }
+    ensures { λ r. ⌜ ((E : Encounter) → Powers-at E 0 t first → Powers-at E (pred exponential-cut) t r) ⌝ }
 {
-    let unit = pair_of(Scaled::ONE, Scaled::ONE);
-    let mut w = PowerPairs { r: unit, sum: unit };
+    let mut w = first;
     let mut k: u64 = 0;
     while k < LAST {
-        w = next(t, w, k);
+        w = one_round(t, w, k);
         k += 1;
     }
     w
@@ -53,14 +61,15 @@ pub struct Exponentials {
     pub r256: Scaled,
 }
 
-// From t of either side.
+// From t of either side; the last round is for r(256) alone.
 pub fn exponential_sums(a: Scaled, b: Scaled) -> Exponentials
-    requires { ⌜ (InRange 32 387 a) × (InRange 32 387 b) ⌝ }
-    ensures { λ r. ⌜ (r .lower ≡ powersOf value (round false 32) one a (pred exponential-cut) .sum) × (r .upper ≡ powersOf value (round true 32) one b (pred exponential-cut) .sum) × (r .r256 ≡ powersOf value (round true 32) one b exponential-cut .r) ⌝ }
+    requires { ⌜ ((E : Encounter) × T-of E a b) ⌝ }
+    ensures { λ r. ⌜ ((E : Encounter) → T-of E a b → (r .lower ≡ exponential-sum false E) × (r .upper ≡ exponential-sum true E) × (r .r256 ≡ r256Of E)) ⌝ }
 {
     let t = pair_of(a, b);
-    let w = exponential(t);
-    let last = next(t, w, LAST);
+    let one = pair_of(Scaled::ONE, Scaled::ONE);
+    let w = rounds(t, PowerPairs { r: one, sum: one });
+    let last = one_round(t, w, LAST);
     let lower = side(false, w.sum);
     let upper = side(true, w.sum);
     let r256 = side(true, last.r);

@@ -1,57 +1,68 @@
 use mathlib.Core.Path.{_≡_, _∙_, ap}
-use mathlib.Core.Bool.{Bool, true, false}
-use Prim.Native.Nat.{ℕ, pred, _^_}
+use mathlib.Core.Bool.{true, false}
+use Prim.Native.Nat.{pred}
 use lib.Dec.{lit<, lit≤}
 use Rattle.exact.specs.declared.Scaled.{Scaled}
+use Rattle.exact.specs.declared.Encounter.{Encounter}
 use Rattle.exact.specs.Numbers.{exponential-cut}
-use Rattle.exact.specs.Scaled.{one, value}
-use Rattle.exact.specs.Private.Round.{round}
-use Rattle.exact.specs.Private.Ranges.{InRange, Powers-in}
-use Rattle.exact.specs.Steps.{PowersOf, powers}
+use Rattle.exact.specs.Scaled.{one}
+use Rattle.exact.specs.Steps.{PowersOf, exponential-sum, r256}
 use Rattle.exact.proofs.Ranges.{widen}
 use Rattle.encounter.specs.declared.steps.sides.Pair.{Pair}
-use Rattle.encounter.specs.Private.Loops.{side-of, powers-of}
-use Rattle.encounter.proofs.steps.Pairs.{by-side}
-use Rattle.encounter.proofs.steps.Opening.{powers-fine, powers-next}
+use Rattle.encounter.specs.declared.steps.sides.PowerPairs.{PowerPairs}
+use Rattle.encounter.specs.Private.Loops.{side-of, T-of, Powers-at}
+use Rattle.encounter.proofs.steps.Rounds.{powers-held, first-at}
 use borrow.Author.Needs.{needs}
 use Rattle.encounter.proofs.steps.powers.exponential_sums.Statement.{statement}
 use Rattle.encounter.proofs.steps.powers.exponential_sums.Tie as tie
 
--- powers by another name of t
-at-t : (up : Bool) (k : ℕ) {t a : Scaled} {w : PowersOf Scaled} → w ≡ powers value (round up 32) one t k → t ≡ a → w ≡ powers value (round up 32) one a k
-at-t up k e f = e ∙ ap (λ (t : Scaled). powers value (round up 32) one t k) f
-
--- t of both sides
-t-in : {a b : Scaled} {t : Pair} → (side-of false t ≡ a) × (side-of true t ≡ b) → (InRange 32 387 a) × (InRange 32 387 b) → (up : Bool) → InRange 32 387 (side-of up t)
-t-in p h = by-side _ (rw (p .0) (h .0)) (rw (p .1) (h .1))
-
 pair-of-requires : tie.Need-pair-of-requires
 pair-of-requires c κs = search needs
 
-exponential-requires : tie.Need-exponential-requires
-exponential-requires c κs = t-in (c .pair-of .ensures) (c .before .pre)
+pair-of-requires-2 : tie.Need-pair-of-requires-2
+pair-of-requires-2 c κs = search needs
 
-next-requires : tie.Need-next-requires
-next-requires c κs = (lit< tt, t-in (c .before .pair-of .ensures) (c .before .before .pre), λ up. powers-fine up (pred exponential-cut) (lit≤ tt) (t-in (c .before .pair-of .ensures) (c .before .before .pre) up) (c .exponential .ensures up))
+-- t and the sums at 255
+summed : (E : Encounter) {a b : Scaled} {t first : Pair} {w : PowerPairs} → T-of E a b → (side-of false t ≡ a) × (side-of true t ≡ b) → (side-of false first ≡ one) × (side-of true first ≡ one)
+    → ((E : Encounter) → Powers-at E 0 t (record { r = first; sum = first }) → Powers-at E (pred exponential-cut) t w)
+    → Powers-at E (pred exponential-cut) t w
+summed E h et ef f = f E (first-at h et ef)
+
+rounds-requires : tie.Need-rounds-requires
+rounds-requires c κs = let z = c .before .before in (z .pre .0, first-at (z .pre .1) (c .before .pair-of .ensures) (c .pair-of2 .ensures))
+
+one-round-requires : tie.Need-one-round-requires
+one-round-requires c κs =
+    let z = c .before .before .before in
+    (lit< tt, (z .pre .0, summed (z .pre .0) (z .pre .1) (c .before .before .pair-of .ensures) (c .before .pair-of2 .ensures) (c .rounds .ensures)))
 
 side-requires : tie.Need-side-requires
-side-requires c κs = widen (lit≤ tt) (powers-fine false (pred exponential-cut) (lit≤ tt) (t-in (c .before .before .pair-of .ensures) (c .before .before .before .pre) false) (c .before .exponential .ensures false) .sum)
+side-requires c κs =
+    let z = c .before .before .before .before in
+    let w = summed (z .pre .0) (z .pre .1) (c .before .before .before .pair-of .ensures) (c .before .before .pair-of2 .ensures) (c .before .rounds .ensures) in
+    widen (lit≤ tt) (powers-held w (lit≤ tt) false .sum)
 
 side-requires-2 : tie.Need-side-requires-2
-side-requires-2 c κs = widen (lit≤ tt) (powers-fine true (pred exponential-cut) (lit≤ tt) (t-in (c .before .before .before .pair-of .ensures) (c .before .before .before .before .pre) true) (c .before .before .exponential .ensures true) .sum)
+side-requires-2 c κs =
+    let z = c .before .before .before .before .before in
+    let w = summed (z .pre .0) (z .pre .1) (c .before .before .before .before .pair-of .ensures) (c .before .before .before .pair-of2 .ensures) (c .before .before .rounds .ensures) in
+    widen (lit≤ tt) (powers-held w (lit≤ tt) true .sum)
 
 side-requires-3 : tie.Need-side-requires-3
 side-requires-3 c κs =
-    let p = c .before .before .before .before .pair-of in
-    widen (lit≤ tt) (powers-fine true exponential-cut (lit≤ tt) (t-in (p .ensures) (c .before .before .before .before .before .pre) true) (powers-next true (side-of true (p .result)) (pred exponential-cut) (c .before .before .before .exponential .ensures true) (c .before .before .next .ensures true)) .r)
+    let z = c .before .before .before .before .before .before in
+    let w = summed (z .pre .0) (z .pre .1) (c .before .before .before .before .before .pair-of .ensures) (c .before .before .before .before .pair-of2 .ensures) (c .before .before .before .rounds .ensures) in
+    widen (lit≤ tt) (powers-held (c .before .before .one-round .ensures (z .pre .0) w) (lit≤ tt) true .r)
 
 returns : tie.Need-returns
+unfolding exponential-sum r256
 returns c =
-    let p = c .before .before .before .before .before .pair-of in
-    let w = c .before .before .before .before .exponential in (
-      c .before .before .side .ensures ∙ ap (λ (w : PowersOf Scaled). w .sum) (at-t false (pred exponential-cut) (w .ensures false) (p .ensures .0)),
-      c .before .side2 .ensures ∙ ap (λ (w : PowersOf Scaled). w .sum) (at-t true (pred exponential-cut) (w .ensures true) (p .ensures .1)),
-      c .side3 .ensures ∙ ap (λ (w : PowersOf Scaled). w .r) (at-t true exponential-cut (powers-next true (side-of true (p .result)) (pred exponential-cut) (w .ensures true) (c .before .before .before .next .ensures true)) (p .ensures .1)),
+    λ E h.
+    let w = summed E h (c .before .before .before .before .before .before .pair-of .ensures) (c .before .before .before .before .before .pair-of2 .ensures) (c .before .before .before .before .rounds .ensures) in
+    let last = c .before .before .before .one-round .ensures E w in (
+      c .before .before .side .ensures ∙ ap (λ (w : PowersOf Scaled). w .sum) (w .powers-are false),
+      c .before .side2 .ensures ∙ ap (λ (w : PowersOf Scaled). w .sum) (w .powers-are true),
+      c .side3 .ensures ∙ ap (λ (w : PowersOf Scaled). w .r) (last .powers-are true),
     )
 
 pub exponential-sums-spec : {M : Type 1} → statement M
@@ -59,8 +70,9 @@ exponential-sums-spec =
     tie.close
     (tie.spec
     pair-of-requires
-    exponential-requires
-    next-requires
+    pair-of-requires-2
+    rounds-requires
+    one-round-requires
     side-requires
     side-requires-2
     side-requires-3

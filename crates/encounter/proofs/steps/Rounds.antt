@@ -1,0 +1,75 @@
+-- One round of the exponential on both sides: ranges at every k to 256, and from the numbers at k to those at k + 1.
+use mathlib.Core.Path.{_≡_, _∙_}
+use mathlib.Core.Bool.{Bool, true, false}
+use mathlib.Core.Logic.{inr}
+use Prim.Native.Nat.{ℕ, suc, _^_, _≤_, _<_}
+use native.Mathlib.Omega.{arith}
+use lib.Dec.{lit<, lit≤}
+use Rattle.exact.specs.declared.Encounter.{Encounter}
+use Rattle.exact.specs.declared.Scaled.{Scaled}
+use Rattle.exact.specs.Fraction.{_⊕_}
+use Rattle.exact.specs.Numbers.{exponential-cut}
+use Rattle.exact.specs.Refusals.{Accepted}
+use Rattle.exact.specs.Scaled.{one, value}
+use Rattle.exact.specs.Private.Ranges.{InRange, Powers-in}
+use Rattle.exact.specs.Private.Round.{round}
+use Rattle.exact.specs.Steps.{PowersOf, add, mul, div, next-power, powers, side-letters, side-powers}
+use Rattle.exact.proofs.Accepted.{facts}
+use Rattle.exact.proofs.Exponents.{mul-in, div-in, letters-in, powers-in}
+use Rattle.exact.proofs.Ranges.{widen}
+use Rattle.encounter.specs.declared.steps.sides.PowerPairs.{PowerPairs}
+use Rattle.encounter.specs.declared.steps.sides.Pair.{Pair}
+use Rattle.encounter.specs.Private.Loops.{side-of, powers-of, T-of, Powers-at}
+use Rattle.encounter.proofs.steps.Pairs.{by-side}
+
+-- ---- ranges
+
+one-in : InRange 32 400 one
+one-in = record { is-scaled = inr (record { low = lit≤ tt; high = lit< tt }); above = lit≤ tt; below = lit≤ tt }
+
+module _ (up : Bool) {E : Encounter} (a : Accepted E) where
+  t-in : InRange 32 387 (side-letters up E .t)
+  unfolding side-letters
+  t-in = letters-in up (facts a .bounds) .t
+
+  pub powers-fine : (k : ℕ) → k ≤ exponential-cut → Powers-in (2 ^ 22) (side-powers up E k)
+  unfolding side-powers
+  powers-fine k l =
+      let q = powers-in up one _ one-in t-in k (omega arith) in
+      record { r = widen (omega arith) (q .r); sum = widen (omega arith) (q .sum) }
+
+-- from k to k + 1
+next-powers : (up : Bool) (E : Encounter) (k : ℕ) {t r s : Scaled} {w : PowersOf Scaled} → t ≡ side-letters up E .t → w ≡ side-powers up E k
+    → r ≡ div value (round up 32) (mul value (round up 32) (w .r) t) (suc k) → s ≡ round up 32 (value (w .sum) ⊕ value r) → record { r = r; sum = s } ≡ side-powers up E (suc k)
+unfolding side-powers powers next-power add
+next-powers up E k et ew er es = rw (es, er, ew, et)
+
+-- ---- both sides at k
+
+module _ {E : Encounter} {k : ℕ} {t : Pair} {w : PowerPairs} (h : Powers-at E k t w) where
+  pub powers-held : k ≤ exponential-cut → (up : Bool) → Powers-in (2 ^ 22) (powers-of up w)
+  powers-held l up = rw (h .powers-are up) (powers-fine up (h .fine) k l)
+
+  -- what a round asks for: t and r(k); the sum and r(k+1)
+  module _ (l : k < exponential-cut) (up : Bool) where
+    pub factors : (InRange 32 387 (side-of up t)) × (InRange 32 (2 ^ 22) (side-of up (w .r)))
+    factors = (rw (h .t-is up) (t-in up (h .fine)), powers-held (omega arith) up .r)
+
+    pub summands : {r : Scaled} → r ≡ div value (round up 32) (mul value (round up 32) (side-of up (w .r)) (side-of up t)) (suc k) → (InRange 32 (2 ^ 28) (side-of up (w .sum))) × (InRange 32 (2 ^ 28) r)
+    summands e = (widen (lit≤ tt) (powers-held (omega arith) up .sum), rw e (widen (lit≤ tt) (div-in up (suc k) (omega arith) (omega arith) (mul-in up (factors .1) (factors .0)))))
+
+  -- one round
+  pub next-at : {r s : Pair} → ((up : Bool) → side-of up r ≡ div value (round up 32) (mul value (round up 32) (side-of up (w .r)) (side-of up t)) (suc k))
+      → ((up : Bool) → side-of up s ≡ round up 32 (value (side-of up (w .sum)) ⊕ value (side-of up r)))
+      → Powers-at E (suc k) t (record { r = r; sum = s })
+  next-at er es = record { fine = h .fine; t-is = h .t-is; powers-are = λ up. next-powers up E k (h .t-is up) (h .powers-are up) (er up) (es up) }
+
+-- r(0) and its sum
+pub first-at : {E : Encounter} {a b : Scaled} {t first : Pair} → T-of E a b → (side-of false t ≡ a) × (side-of true t ≡ b) → (side-of false first ≡ one) × (side-of true first ≡ one)
+    → Powers-at E 0 t (record { r = first; sum = first })
+unfolding side-powers powers
+first-at h et ef = record {
+  fine = h .0;
+  t-is = by-side _ (et .0 ∙ h .1) (et .1 ∙ h .2);
+  powers-are = by-side _ (rw (ef .0)) (rw (ef .1));
+}
