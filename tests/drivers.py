@@ -241,3 +241,57 @@ fn main() {
     }
 }
 """
+
+# The rounds of the exponential, as a port would make them. Reads records of 20 bytes, the five inputs of an encounter
+# that is accepted, and writes a line for each k from 0 to 256: r(k) and the sum to it of the lower side, then of the
+# upper side.
+ROUNDS = """\
+mod words;
+use crate::words::put;
+use crate::words::signed;
+use crate::words::unsigned;
+use crate::words::word;
+use encounter::steps::letters::letters;
+use encounter::steps::powers::one_round;
+use encounter::steps::sides::PowerPairs;
+use encounter::steps::sides::pair_of;
+use encounter::steps::sides::side;
+use exact::Encounter;
+use exact::Scaled;
+
+fn put_scaled(line: &mut [u8], at: usize, a: Scaled) -> usize {
+    let next = put(line, at, a.m);
+    put(line, next, unsigned(a.e))
+}
+
+fn put_side(line: &mut [u8], at: usize, up: bool, w: PowerPairs) -> usize {
+    let next = put_scaled(line, at, side(up, w.r));
+    put_scaled(line, next, side(up, w.sum))
+}
+
+fn show(w: PowerPairs) {
+    let mut line = [10u8; 65];
+    let next = put_side(&mut line, 0, false, w);
+    put_side(&mut line, next, true, w);
+    io::write_all(1, &line);
+}
+
+fn main() {
+    let mut b = [0u8; 20];
+    while io::read_full(0, &mut b) == 20 {
+        let E = Encounter { R: word(&b, 0), sx: word(&b, 4), sy: word(&b, 8), xm: signed(word(&b, 12)), ym: signed(word(&b, 16)) };
+        let below = letters(false, E);
+        let above = letters(true, E);
+        let t = pair_of(below.t, above.t);
+        let one = pair_of(Scaled::ONE, Scaled::ONE);
+        let mut w = PowerPairs { r: one, sum: one };
+        show(w);
+        let mut k: u64 = 0;
+        while k < 256 {
+            w = one_round(t, w, k);
+            show(w);
+            k += 1;
+        }
+    }
+}
+"""

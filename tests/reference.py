@@ -3,6 +3,7 @@
 A scaled number is a pair (m, e), as in rounded.py. records.py has the script and its listing.
 """
 
+import itertools
 from dataclasses import dataclass, field
 from typing import NamedTuple
 
@@ -80,13 +81,19 @@ def first(r, R, sx, sy, xm, ym):
     )
 
 
-def exponential(r, t):
-    """The sum of the terms below the cut, and the next term."""
+def rounds(r, t):
+    """r(k) and the sum of r(0) to r(k), for k from 0 on."""
     total = term = ONE
-    for k in range(1, EXPONENTIAL_CUT):
+    for k in itertools.count(1):
+        yield term, total
         term = r.over(r.product(term, t), k)
         total = r.plus(total, term)
-    return total, r.over(r.product(term, t), EXPONENTIAL_CUT)
+
+
+def exponential(r, t):
+    """The sum of the terms below the cut, and the next term."""
+    *_, (_, total), (term, _) = itertools.islice(rounds(r, t), EXPONENTIAL_CUT + 1)
+    return total, term
 
 
 def advance(r, side, N, count):

@@ -31,7 +31,7 @@ fn next_r(t: Pair, r: Pair, k: u64) -> Pair
 }
 
 // One round (request #102 of document 02): r and sum of both sides, of whichever encounter they are, from k to k + 1.
-fn one_round(t: Pair, w: PowerPairs, k: u64) -> PowerPairs
+pub fn one_round(t: Pair, w: PowerPairs, k: u64) -> PowerPairs
     requires { ⌜ (k < exponential-cut) × ((E : Encounter) × Powers-at E k t w) ⌝ }
     ensures { λ r. ⌜ ((E : Encounter) → Powers-at E k t w → Powers-at E (suc k) t r) ⌝ }
 {
