@@ -28,6 +28,9 @@ def number(text, signed):
 
 # The module `words` of each program: numbers in records (little-endian) and in lines.
 WORDS = """\
+use exact::Encounter;
+use exact::Scaled;
+
 pub fn word(b: &[u8], at: usize) -> u32 {
     (b[at] as u32) + (b[at + 1] as u32) * 256 + (b[at + 2] as u32) * 65536 + (b[at + 3] as u32) * 16777216
 }
@@ -61,6 +64,21 @@ pub fn put(line: &mut [u8], at: usize, x: u32) -> usize {
     }
     at + 8
 }
+
+pub fn put_scaled(line: &mut [u8], at: usize, a: Scaled) -> usize {
+    let next = put(line, at, a.m);
+    put(line, next, unsigned(a.e))
+}
+
+pub fn encounter_at(b: &[u8], at: usize) -> Encounter {
+    Encounter {
+        R: word(b, at),
+        sx: word(b, at + 4),
+        sy: word(b, at + 8),
+        xm: signed(word(b, at + 12)),
+        ym: signed(word(b, at + 16)),
+    }
+}
 """
 
 # The arithmetic. Reads records of 18 bytes: the kind, the direction (1 for U), then two operands of 8 bytes,
@@ -68,9 +86,8 @@ pub fn put(line: &mut [u8], at: usize, x: u32) -> usize {
 # m = 1 or m = 0, with e = 0.
 OPERATIONS = """\
 mod words;
-use crate::words::put;
+use crate::words::put_scaled;
 use crate::words::signed;
-use crate::words::unsigned;
 use crate::words::word;
 use encounter::arithmetic::scaled;
 use encounter::arithmetic::wide;
@@ -119,9 +136,7 @@ fn main() {
     let mut record = [0u8; 18];
     let mut line = [10u8; 17];
     while io::read_full(0, &mut record) == 18 {
-        let r = answer(&record);
-        let next = put(&mut line, 0, r.m);
-        put(&mut line, next, unsigned(r.e));
+        put_scaled(&mut line, 0, answer(&record));
         io::write_all(1, &line);
     }
 }
@@ -133,8 +148,9 @@ fn main() {
 # the session, in the order of fields.py.
 SESSIONS = """\
 mod words;
+use crate::words::encounter_at;
 use crate::words::put;
-use crate::words::signed;
+use crate::words::put_scaled;
 use crate::words::unsigned;
 use crate::words::word;
 use encounter::calls;
@@ -146,10 +162,6 @@ use encounter::state::Side;
 use exact::Encounter;
 use exact::Scaled;
 
-fn encounter_of(b: &[u8; 21]) -> Encounter {
-    Encounter { R: word(b, 1), sx: word(b, 5), sy: word(b, 9), xm: signed(word(b, 13)), ym: signed(word(b, 17)) }
-}
-
 fn nothing() -> Answer {
     let zero = Scaled::ZERO;
     Answer { refusal: 0, N: 0, lower: zero, upper: zero, class: Class::Clear }
@@ -157,7 +169,7 @@ fn nothing() -> Answer {
 
 fn by_value(s: Session, b: &[u8; 21]) -> Called {
     match b[0] {
-        1 => calls::begin(s, encounter_of(b)),
+        1 => calls::begin(s, encounter_at(b, 1)),
         2 => calls::add(s, word(b, 1) as u16),
         3 => Called { answer: calls::read(s), session: s },
         _ => Called { answer: nothing(), session: Session::empty() },
@@ -166,7 +178,7 @@ fn by_value(s: Session, b: &[u8; 21]) -> Called {
 
 fn call(s: &mut Session, b: &[u8; 21]) -> Answer {
     if b[0] == 4 {
-        return s.begin(encounter_of(b));
+        return s.begin(encounter_at(b, 1));
     }
     if b[0] == 5 {
         return s.add(word(b, 1) as u16);
@@ -174,11 +186,6 @@ fn call(s: &mut Session, b: &[u8; 21]) -> Answer {
     let c = by_value(*s, b);
     *s = c.session;
     c.answer
-}
-
-fn put_scaled(line: &mut [u8], at: usize, a: Scaled) -> usize {
-    let next = put(line, at, a.m);
-    put(line, next, unsigned(a.e))
 }
 
 fn put_class(line: &mut [u8], at: usize, class: Class) -> usize {
@@ -247,22 +254,14 @@ fn main() {
 # upper side.
 ROUNDS = """\
 mod words;
-use crate::words::put;
-use crate::words::signed;
-use crate::words::unsigned;
-use crate::words::word;
+use crate::words::encounter_at;
+use crate::words::put_scaled;
 use encounter::steps::letters::letters;
 use encounter::steps::powers::one_round;
 use encounter::steps::sides::PowerPairs;
 use encounter::steps::sides::pair_of;
 use encounter::steps::sides::side;
-use exact::Encounter;
 use exact::Scaled;
-
-fn put_scaled(line: &mut [u8], at: usize, a: Scaled) -> usize {
-    let next = put(line, at, a.m);
-    put(line, next, unsigned(a.e))
-}
 
 fn put_side(line: &mut [u8], at: usize, up: bool, w: PowerPairs) -> usize {
     let next = put_scaled(line, at, side(up, w.r));
@@ -279,7 +278,7 @@ fn show(w: PowerPairs) {
 fn main() {
     let mut b = [0u8; 20];
     while io::read_full(0, &mut b) == 20 {
-        let E = Encounter { R: word(&b, 0), sx: word(&b, 4), sy: word(&b, 8), xm: signed(word(&b, 12)), ym: signed(word(&b, 16)) };
+        let E = encounter_at(&b, 0);
         let below = letters(false, E);
         let above = letters(true, E);
         let t = pair_of(below.t, above.t);
