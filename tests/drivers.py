@@ -1,7 +1,7 @@
 """The programs in Rattle that scratch.py runs over the crates' code, and the lines that they write.
 
-A program reads a record of bytes for each case and writes a line: numbers of eight hexadecimal digits each, a negative
-one in two's complement.
+A program reads a record of bytes for each case and writes a line, ROUNDS several lines: numbers of eight hexadecimal
+digits each, a negative one in two's complement.
 """
 
 WIDTH = 8
@@ -251,28 +251,30 @@ fn main() {
 
 # The rounds of the exponential, as a port would make them. Reads records of 20 bytes, the five inputs of an encounter
 # that is accepted, and writes a line for each k from 0 to 256: r(k) and the sum to it of the lower side, then of the
-# upper side.
+# upper side. Then one line of what a begin takes: zero, the lower sum, the upper r(256), the upper sum.
 ROUNDS = """\
 mod words;
 use crate::words::encounter_at;
 use crate::words::put_scaled;
 use encounter::steps::letters::letters;
+use encounter::steps::powers::exponential_sums;
 use encounter::steps::powers::one_round;
 use encounter::steps::sides::PowerPairs;
 use encounter::steps::sides::pair_of;
 use encounter::steps::sides::side;
 use exact::Scaled;
 
-fn put_side(line: &mut [u8], at: usize, up: bool, w: PowerPairs) -> usize {
-    let next = put_scaled(line, at, side(up, w.r));
-    put_scaled(line, next, side(up, w.sum))
+fn show(lower_r: Scaled, lower_sum: Scaled, upper_r: Scaled, upper_sum: Scaled) {
+    let mut line = [10u8; 65];
+    let mut next = put_scaled(&mut line, 0, lower_r);
+    next = put_scaled(&mut line, next, lower_sum);
+    next = put_scaled(&mut line, next, upper_r);
+    put_scaled(&mut line, next, upper_sum);
+    io::write_all(1, &line);
 }
 
-fn show(w: PowerPairs) {
-    let mut line = [10u8; 65];
-    let next = put_side(&mut line, 0, false, w);
-    put_side(&mut line, next, true, w);
-    io::write_all(1, &line);
+fn show_round(w: PowerPairs) {
+    show(side(false, w.r), side(false, w.sum), side(true, w.r), side(true, w.sum));
 }
 
 fn main() {
@@ -284,13 +286,15 @@ fn main() {
         let t = pair_of(below.t, above.t);
         let one = pair_of(Scaled::ONE, Scaled::ONE);
         let mut w = PowerPairs { r: one, sum: one };
-        show(w);
+        show_round(w);
         let mut k: u64 = 0;
         while k < 256 {
             w = one_round(t, w, k);
-            show(w);
+            show_round(w);
             k += 1;
         }
+        let taken = exponential_sums(below.t, above.t);
+        show(Scaled::ZERO, taken.lower, taken.r256, taken.upper);
     }
 }
 """

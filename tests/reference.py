@@ -81,6 +81,7 @@ def first(r, R, sx, sy, xm, ym):
     )
 
 
+# "The exponential has r(0) = 1, r(k) = D(D(r(k−1) × t)/k), added likewise for k to 255."
 def rounds(r, t):
     """r(k) and the sum of r(0) to r(k), for k from 0 on."""
     total = term = ONE
@@ -92,8 +93,8 @@ def rounds(r, t):
 
 def exponential(r, t):
     """The sum of the terms below the cut, and the next term."""
-    *_, (_, total), (term, _) = itertools.islice(rounds(r, t), EXPONENTIAL_CUT + 1)
-    return total, term
+    made = list(itertools.islice(rounds(r, t), EXPONENTIAL_CUT + 1))
+    return made[-2][1], made[-1][0]
 
 
 def advance(r, side, N, count):

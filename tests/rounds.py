@@ -3,8 +3,9 @@
 
     python3 tests/rounds.py [--root FOLDER] [--seed N]
 
-The round is a private function, which scratch.py makes public in a copy of the crates. A program there makes the rounds
-as a port would, interpreted and compiled, and writes both sides' numbers after each.
+A round is a private function, which scratch.py makes public in a copy of the crates. A program there makes the rounds
+as a port would, interpreted and compiled, and writes both sides' numbers after each, and then those that a begin takes.
+A sum does not change any more once r(k) is small, and only r(k) tells of a late slip: both are compared at every k.
 """
 
 import itertools
@@ -21,16 +22,19 @@ import orders
 import scratch
 from encounters import DOCUMENTS
 from exact_series import Encounter
-from reference import EXPONENTIAL_CUT, LARGEST, Session, first, rounds
+from reference import EXPONENTIAL_CUT, LARGEST, first, rounds
 from rounded import DOWN, UP
+from scaled import ZERO
 
 # The numbers of a line.
 FIELDS = [
     (side + " " + name + part, part == ".e") for side in ("lower", "upper") for name in ("r", "sum") for part in (".m", ".e")
 ]
-# The encounters of one run: the interpreter takes about 700,000 steps for one.
+# The lines of an encounter: k from 0 to the cut, and what a begin takes.
+LINES = EXPONENTIAL_CUT + 2
+# The encounters of one run: the interpreter takes fewer than 1,000,000 steps for one.
 BATCH = scratch.MOST_STEPS // 1_000_000
-# The least t, the largest, and one without a miss.
+# The least t, the largest, and t = 1/2.
 EDGES = [Encounter(1, LARGEST, LARGEST, 0, 0), Encounter(8, 1, 1, 8, 0), Encounter(10, 10, 10, 0, 0)]
 DRAWN = 12
 
@@ -43,20 +47,14 @@ def encounters(rng):
         yield from filter(orders.begun, drawn.near_64(rng))
 
 
-def powers(encounter):
-    """For each k from 0 on r(k) and the sum to it, lower and upper."""
-    return zip(*(rounds(r, first(r, *encounter).t) for r in (DOWN, UP)))
-
-
 def lines(encounter):
-    """A line for each k to the cut. The sums before the cut and the upper r at it are those of a begin."""
-    made = list(itertools.islice(powers(encounter), EXPONENTIAL_CUT + 1))
-    held = Session()
-    held.begin(*encounter)
-    sums = tuple(total for _, total in made[EXPONENTIAL_CUT - 1])
-    _, (r256, _) = made[EXPONENTIAL_CUT]
-    assert (*sums, r256) == (held.lower.exponential, held.upper.exponential, held.r256), encounter
-    return [drivers.line(number for side in sides for pair in side for number in pair) for sides in made]
+    """The lines that are due for an encounter."""
+    made = [list(itertools.islice(rounds(r, first(r, *encounter).t), EXPONENTIAL_CUT + 1)) for r in (DOWN, UP)]
+    # "added likewise for k to 255", and "upper r(256)"
+    (_, lower_sum), (_, upper_sum) = [side[EXPONENTIAL_CUT - 1] for side in made]
+    r256, _ = made[1][EXPONENTIAL_CUT]
+    taken = (ZERO, lower_sum), (r256, upper_sum)
+    return [drivers.line(number for side in both for x in side for number in x) for both in [*zip(*made), taken]]
 
 
 def compare(folder, batch):
@@ -64,9 +62,10 @@ def compare(folder, batch):
     ways = scratch.run(folder, b"".join(struct.pack("<IIIii", *encounter) for encounter in batch), "".join(due))
     if ways:
         at, text = scratch.report(ways, FIELDS, due)
-        index, k = divmod(at, EXPONENTIAL_CUT + 1)
-        print("%s at k = %d\n%s" % (tuple(batch[index]), k, text))
-        sys.exit("rounds: this round differs, and perhaps later ones")
+        index, k = divmod(at, LINES)
+        place = "at k = %d" % k if k < LINES - 1 else "as a begin takes them"
+        print("%s, %s\n%s" % (tuple(batch[index]), place, text))
+        sys.exit("rounds: these numbers differ, and perhaps later ones")
 
 
 def main():

@@ -23,11 +23,11 @@ def arguments(description):
 
 
 def repository(root, folder, program):
-    """Fills the folder: the crates' code, all modules of `encounter` public, and the driver."""
+    """Fills the folder: the crates' code, all modules and functions of `encounter` public, and the driver."""
     for source in root.glob("crates/*/src"):
         shutil.copytree(source, folder / source.relative_to(root))
     for source in (folder / "crates/encounter/src").rglob("*.rt"):
-        source.write_text(re.sub(r"^mod ", "pub mod ", source.read_text(), flags=re.M))
+        source.write_text(re.sub(r"^(mod|fn) ", r"pub \1 ", source.read_text(), flags=re.M))
     source = folder / "crates/driver/src"
     source.mkdir(parents=True)
     (source / "main.rt").write_text(program)

@@ -14,8 +14,7 @@ use Rattle.encounter.specs.declared.state.Letters.{Letters}
 use Rattle.encounter.specs.declared.state.Side.{Side}
 use Rattle.encounter.specs.declared.state.Terms.{Terms}
 use Rattle.encounter.specs.Session.{state, side}
-use Rattle.encounter.specs.Private.Held.{held-letters, step-letters, held-terms}
-use Rattle.encounter.specs.Private.Loops.{T-of}
+use Rattle.encounter.specs.Private.Held.{held-letters, step-letters, held-terms, T-of}
 
 pub letters-fine : (up : Bool) (E : Encounter) {l : Letters} → Bounds E → l ≡ held-letters (side-letters up E) → Letters-in (step-letters l)
 unfolding side-letters

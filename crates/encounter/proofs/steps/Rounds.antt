@@ -13,13 +13,14 @@ use Rattle.exact.specs.Refusals.{Accepted}
 use Rattle.exact.specs.Scaled.{one, value}
 use Rattle.exact.specs.Private.Ranges.{InRange, Powers-in}
 use Rattle.exact.specs.Private.Round.{round}
-use Rattle.exact.specs.Steps.{PowersOf, add, mul, div, next-power, powers, side-letters, side-powers}
+use Rattle.exact.specs.Steps.{PowersOf, add, next-power, powers, side-letters, side-powers}
 use Rattle.exact.proofs.Accepted.{facts}
-use Rattle.exact.proofs.Exponents.{mul-in, div-in, letters-in, powers-in}
+use Rattle.exact.proofs.Exponents.{letters-in, powers-in}
 use Rattle.exact.proofs.Ranges.{widen}
 use Rattle.encounter.specs.declared.steps.sides.PowerPairs.{PowerPairs}
 use Rattle.encounter.specs.declared.steps.sides.Pair.{Pair}
-use Rattle.encounter.specs.Private.Loops.{side-of, powers-of, T-of, Powers-at}
+use Rattle.encounter.specs.Private.Held.{T-of}
+use Rattle.encounter.specs.Private.Loops.{side-of, powers-of, next-r, Powers-at}
 use Rattle.encounter.proofs.steps.Pairs.{by-side}
 
 -- ---- ranges
@@ -39,10 +40,14 @@ module _ (up : Bool) {E : Encounter} (a : Accepted E) where
       record { r = widen (omega arith) (q .r); sum = widen (omega arith) (q .sum) }
 
 -- from k to k + 1
-next-powers : (up : Bool) (E : Encounter) (k : ℕ) {t r s : Scaled} {w : PowersOf Scaled} → t ≡ side-letters up E .t → w ≡ side-powers up E k
-    → r ≡ div value (round up 32) (mul value (round up 32) (w .r) t) (suc k) → s ≡ round up 32 (value (w .sum) ⊕ value r) → record { r = r; sum = s } ≡ side-powers up E (suc k)
-unfolding side-powers powers next-power add
-next-powers up E k et ew er es = rw (es, er, ew, et)
+module _ (up : Bool) (E : Encounter) (k : ℕ) {t r : Scaled} {w : PowersOf Scaled} (et : t ≡ side-letters up E .t) (ew : w ≡ side-powers up E k) (er : r ≡ next-r up k (w .r) t) where
+  next-r-is : r ≡ side-powers up E (suc k) .r
+  unfolding side-powers powers next-power
+  next-r-is = rw (er, ew, et)
+
+  next-powers : {s : Scaled} → s ≡ round up 32 (value (w .sum) ⊕ value r) → record { r = r; sum = s } ≡ side-powers up E (suc k)
+  unfolding side-powers powers next-power add
+  next-powers es = rw (es, er, ew, et)
 
 -- ---- both sides at k
 
@@ -50,16 +55,22 @@ module _ {E : Encounter} {k : ℕ} {t : Pair} {w : PowerPairs} (h : Powers-at E 
   pub powers-held : k ≤ exponential-cut → (up : Bool) → Powers-in (2 ^ 22) (powers-of up w)
   powers-held l up = rw (h .powers-are up) (powers-fine up (h .fine) k l)
 
-  -- what a round asks for: t and r(k); the sum and r(k+1)
+  -- the ranges that a round needs
   module _ (l : k < exponential-cut) (up : Bool) where
+    -- of t and r(k), which are multiplied
     pub factors : (InRange 32 387 (side-of up t)) × (InRange 32 (2 ^ 22) (side-of up (w .r)))
     factors = (rw (h .t-is up) (t-in up (h .fine)), powers-held (omega arith) up .r)
 
-    pub summands : {r : Scaled} → r ≡ div value (round up 32) (mul value (round up 32) (side-of up (w .r)) (side-of up t)) (suc k) → (InRange 32 (2 ^ 28) (side-of up (w .sum))) × (InRange 32 (2 ^ 28) r)
-    summands e = (widen (lit≤ tt) (powers-held (omega arith) up .sum), rw e (widen (lit≤ tt) (div-in up (suc k) (omega arith) (omega arith) (mul-in up (factors .1) (factors .0)))))
+    -- of r(k) and the sum
+    pub held : (InRange 32 (2 ^ 28) (side-of up (w .r))) × (InRange 32 (2 ^ 28) (side-of up (w .sum)))
+    held = let i = powers-held (omega arith) up in (widen (lit≤ tt) (i .r), widen (lit≤ tt) (i .sum))
+
+    -- of r(k+1)
+    pub next-held : {r : Scaled} → r ≡ next-r up k (side-of up (w .r)) (side-of up t) → InRange 32 (2 ^ 28) r
+    next-held er = rw (next-r-is up E k (h .t-is up) (h .powers-are up) er) (widen (lit≤ tt) (powers-fine up (h .fine) (suc k) l .r))
 
   -- one round
-  pub next-at : {r s : Pair} → ((up : Bool) → side-of up r ≡ div value (round up 32) (mul value (round up 32) (side-of up (w .r)) (side-of up t)) (suc k))
+  pub next-at : {r s : Pair} → ((up : Bool) → side-of up r ≡ next-r up k (side-of up (w .r)) (side-of up t))
       → ((up : Bool) → side-of up s ≡ round up 32 (value (side-of up (w .sum)) ⊕ value (side-of up r)))
       → Powers-at E (suc k) t (record { r = r; sum = s })
   next-at er es = record { fine = h .fine; t-is = h .t-is; powers-are = λ up. next-powers up E k (h .t-is up) (h .powers-are up) (er up) (es up) }

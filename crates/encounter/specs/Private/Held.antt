@@ -1,11 +1,12 @@
--- The session's structs and the steps' records into each other, what an add changes, and what the premise of a call comes to. Private functions ask for these.
+-- The session's structs and the steps' records into each other, what an add changes, both t of an encounter, and what the premise of a call comes to. Private
+-- functions ask for these.
 use mathlib.Core.Path.{_≡_}
 use mathlib.Core.Bool.{true, false}
 use Prim.Native.Nat.{ℕ, suc, _≤_}
 use Rattle.exact.specs.declared.Encounter.{Encounter}
 use Rattle.exact.specs.declared.Scaled.{Scaled}
 use Rattle.exact.specs.Numbers.{largest-order}
-use Rattle.exact.specs.Steps.{LettersOf, TermsOf, side-terms, d}
+use Rattle.exact.specs.Steps.{LettersOf, TermsOf, side-letters, side-terms, d}
 use Rattle.exact.specs.Refusals.{Accepted}
 use Rattle.encounter.specs.declared.state.Letters.{Letters}
 use Rattle.encounter.specs.declared.state.Terms.{Terms}
@@ -30,6 +31,10 @@ step-terms s = record { c = s .c; p = s .p; v = s .v; y = s .y; sum = s .sum }
 -- what an add changes, at order n + 1
 unfoldable pub progress : Encounter → ℕ → Progress
 progress E n = record { lower = held-terms (side-terms false E n); upper = held-terms (side-terms true E n); d = d E (suc n) }
+
+-- a and b are the lower and the upper t of E, which is accepted
+abbrev pub T-of : Encounter → Scaled → Scaled → Type 0
+T-of E a b = (Accepted E) × (a ≡ side-letters false E .t) × (b ≡ side-letters true E .t)
 
 -- a record's call, from the call that it asks for
 abbrev pub made-of : Called → ℕ → Taken

@@ -1,15 +1,15 @@
--- Scaled numbers as the loops hold them: in two machine words, and both sides together. No line of the paper.
+-- Scaled numbers as the loops hold them: in two machine words, and both sides together; and whose numbers a round of the exponential holds. No line of the paper.
 use mathlib.Core.Path.{_≡_}
 use mathlib.Core.Bool.{Bool, true, false, cond, _&&_}
-use Prim.Native.Nat.{ℕ, _+_, _*_, _^_, _≤_, _<_}
+use Prim.Native.Nat.{ℕ, suc, _+_, _*_, _^_, _≤_, _<_}
 use lib.IntN.{ℤ}
 use lib.Ieee.{size}
 use Rattle.exact.specs.declared.Scaled.{Scaled}
-use Rattle.exact.specs.Scaled.{scaled}
-use Rattle.exact.specs.Private.Round.{pack}
+use Rattle.exact.specs.Scaled.{scaled, value}
+use Rattle.exact.specs.Private.Round.{pack, round}
 use Rattle.exact.specs.declared.Encounter.{Encounter}
 use Rattle.exact.specs.Refusals.{Accepted}
-use Rattle.exact.specs.Steps.{LettersOf, TermsOf, PowersOf, side-letters, side-powers}
+use Rattle.exact.specs.Steps.{LettersOf, TermsOf, PowersOf, mul, div, side-letters, side-powers}
 use Rattle.encounter.specs.declared.arithmetic.wide.Wide.{Wide}
 use Rattle.encounter.specs.declared.arithmetic.wide.Reciprocal.{Reciprocal}
 use Rattle.encounter.specs.declared.steps.sides.Pair.{Pair}
@@ -52,11 +52,11 @@ terms-of up s = record { c = side-of up (s .c); p = side-of up (s .p); v = side-
 abbrev pub powers-of : Bool → PowerPairs → PowersOf Scaled
 powers-of up w = record { r = side-of up (w .r); sum = side-of up (w .sum) }
 
--- a and b are the lower and the upper t of an accepted encounter
-abbrev pub T-of : Encounter → Scaled → Scaled → Type 0
-T-of E a b = (Accepted E) × (a ≡ side-letters false E .t) × (b ≡ side-letters true E .t)
+-- r(k+1) of a side, from its r(k) and t
+abbrev pub next-r : Bool → ℕ → Scaled → Scaled → Scaled
+next-r up k r t = div value (round up 32) (mul value (round up 32) r t) (suc k)
 
--- of an accepted encounter and on both sides, t is its t and w its r(k) with the sum of r(0) to r(k)
+-- E is accepted, and on both sides t is E's t and w is E's r(k) with the sum of r(0) to r(k)
 pub record Powers-at (E : Encounter) (k : ℕ) (t : Pair) (w : PowerPairs) : Type 0 where
   pub fine : Accepted E
   pub t-is : (up : Bool) → side-of up t ≡ side-letters up E .t

@@ -4,11 +4,10 @@ ghost use mathlib.Core.Bool.{Bool, true, false};
 ghost use Prim.Native.Nat.{suc, pred, _^_, _<_};
 ghost use Rattle.exact.specs.declared.Encounter.{Encounter};
 ghost use Rattle.exact.specs.Numbers.{exponential-cut};
-ghost use Rattle.exact.specs.Scaled.{value};
 ghost use Rattle.exact.specs.Private.Ranges.{InRange};
-ghost use Rattle.exact.specs.Private.Round.{round};
-ghost use Rattle.exact.specs.Steps.{mul, div, exponential-sum, r256 as r256Of};
-ghost use Rattle.encounter.specs.Private.Loops.{side-of, T-of, Powers-at};
+ghost use Rattle.exact.specs.Steps.{exponential-sum, r256 as r256Of};
+ghost use Rattle.encounter.specs.Private.Held.{T-of};
+ghost use Rattle.encounter.specs.Private.Loops.{side-of, next-r, Powers-at};
 use crate::steps::sides::Pair;
 use crate::steps::sides::PowerPairs;
 use crate::steps::sides::overs;
@@ -25,13 +24,13 @@ const LAST: u64 = EXPONENTIAL_CUT - 1;
 // r(k + 1) from r(k).
 fn next_r(t: Pair, r: Pair, k: u64) -> Pair
     requires { ⌜ (k < exponential-cut) × ((up : Bool) → (InRange 32 387 (side-of up t)) × (InRange 32 (2 ^ 22) (side-of up r))) ⌝ }
-    ensures { λ q. ⌜ ((up : Bool) → side-of up q ≡ div value (round up 32) (mul value (round up 32) (side-of up r) (side-of up t)) (suc k)) ⌝ }
+    ensures { λ q. ⌜ ((up : Bool) → side-of up q ≡ next-r up k (side-of up r) (side-of up t)) ⌝ }
 {
     overs(products(r, t), k + 1)
 }
 
-// One round (request #102 of document 02): r and sum of both sides, of whichever encounter they are, from k to k + 1.
-pub fn one_round(t: Pair, w: PowerPairs, k: u64) -> PowerPairs
+// One round (request #102 of document 02): r and the sum of both sides, from an encounter's numbers at k to the same encounter's at k + 1.
+fn one_round(t: Pair, w: PowerPairs, k: u64) -> PowerPairs
     requires { ⌜ (k < exponential-cut) × ((E : Encounter) × Powers-at E k t w) ⌝ }
     ensures { λ r. ⌜ ((E : Encounter) → Powers-at E k t w → Powers-at E (suc k) t r) ⌝ }
 {
@@ -40,7 +39,7 @@ pub fn one_round(t: Pair, w: PowerPairs, k: u64) -> PowerPairs
     PowerPairs { r, sum }
 }
 
-// The rounds from k = 0 to LAST.
+// From the numbers at k = 0 to those at k = LAST.
 fn rounds(t: Pair, first: PowerPairs) -> PowerPairs
     requires { ⌜ ((E : Encounter) × Powers-at E 0 t first) ⌝ }
     ensures { λ r. ⌜ ((E : Encounter) → Powers-at E 0 t first → Powers-at E (pred exponential-cut) t r) ⌝ }
@@ -61,7 +60,8 @@ pub struct Exponentials {
     pub r256: Scaled,
 }
 
-// From t of either side; the last round is for r(256) alone.
+// From both sides' t. The last round is for r(256) alone; it stands apart, since a round that is called at one place is compiled into its loop, and a begin then
+// takes longer.
 pub fn exponential_sums(a: Scaled, b: Scaled) -> Exponentials
     requires { ⌜ ((E : Encounter) × T-of E a b) ⌝ }
     ensures { λ r. ⌜ ((E : Encounter) → T-of E a b → (r .lower ≡ exponential-sum false E) × (r .upper ≡ exponential-sum true E) × (r .r256 ≡ r256Of E)) ⌝ }

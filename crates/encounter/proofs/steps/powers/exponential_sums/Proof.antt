@@ -1,16 +1,9 @@
-use mathlib.Core.Path.{_≡_, _∙_, ap}
+use mathlib.Core.Path.{_∙_, ap}
 use mathlib.Core.Bool.{true, false}
-use Prim.Native.Nat.{pred}
 use lib.Dec.{lit<, lit≤}
 use Rattle.exact.specs.declared.Scaled.{Scaled}
-use Rattle.exact.specs.declared.Encounter.{Encounter}
-use Rattle.exact.specs.Numbers.{exponential-cut}
-use Rattle.exact.specs.Scaled.{one}
 use Rattle.exact.specs.Steps.{PowersOf, exponential-sum, r256}
 use Rattle.exact.proofs.Ranges.{widen}
-use Rattle.encounter.specs.declared.steps.sides.Pair.{Pair}
-use Rattle.encounter.specs.declared.steps.sides.PowerPairs.{PowerPairs}
-use Rattle.encounter.specs.Private.Loops.{side-of, T-of, Powers-at}
 use Rattle.encounter.proofs.steps.Rounds.{powers-held, first-at}
 use borrow.Author.Needs.{needs}
 use Rattle.encounter.proofs.steps.powers.exponential_sums.Statement.{statement}
@@ -22,43 +15,42 @@ pair-of-requires c κs = search needs
 pair-of-requires-2 : tie.Need-pair-of-requires-2
 pair-of-requires-2 c κs = search needs
 
--- t and the sums at 255
-summed : (E : Encounter) {a b : Scaled} {t first : Pair} {w : PowerPairs} → T-of E a b → (side-of false t ≡ a) × (side-of true t ≡ b) → (side-of false first ≡ one) × (side-of true first ≡ one)
-    → ((E : Encounter) → Powers-at E 0 t (record { r = first; sum = first }) → Powers-at E (pred exponential-cut) t w)
-    → Powers-at E (pred exponential-cut) t w
-summed E h et ef f = f E (first-at h et ef)
-
 rounds-requires : tie.Need-rounds-requires
 rounds-requires c κs = let z = c .before .before in (z .pre .0, first-at (z .pre .1) (c .before .pair-of .ensures) (c .pair-of2 .ensures))
 
 one-round-requires : tie.Need-one-round-requires
 one-round-requires c κs =
     let z = c .before .before .before in
-    (lit< tt, (z .pre .0, summed (z .pre .0) (z .pre .1) (c .before .before .pair-of .ensures) (c .before .pair-of2 .ensures) (c .rounds .ensures)))
+    let w = c .rounds .ensures (z .pre .0) (first-at (z .pre .1) (c .before .before .pair-of .ensures) (c .before .pair-of2 .ensures)) in
+    (lit< tt, (z .pre .0, w))
 
 side-requires : tie.Need-side-requires
 side-requires c κs =
-    let z = c .before .before .before .before in
-    let w = summed (z .pre .0) (z .pre .1) (c .before .before .before .pair-of .ensures) (c .before .before .pair-of2 .ensures) (c .before .rounds .ensures) in
+    let b = c .before in
+    let z = b .before .before .before in
+    let w = b .rounds .ensures (z .pre .0) (first-at (z .pre .1) (b .before .before .pair-of .ensures) (b .before .pair-of2 .ensures)) in
     widen (lit≤ tt) (powers-held w (lit≤ tt) false .sum)
 
 side-requires-2 : tie.Need-side-requires-2
 side-requires-2 c κs =
-    let z = c .before .before .before .before .before in
-    let w = summed (z .pre .0) (z .pre .1) (c .before .before .before .before .pair-of .ensures) (c .before .before .before .pair-of2 .ensures) (c .before .before .rounds .ensures) in
+    let b = c .before .before in
+    let z = b .before .before .before in
+    let w = b .rounds .ensures (z .pre .0) (first-at (z .pre .1) (b .before .before .pair-of .ensures) (b .before .pair-of2 .ensures)) in
     widen (lit≤ tt) (powers-held w (lit≤ tt) true .sum)
 
 side-requires-3 : tie.Need-side-requires-3
 side-requires-3 c κs =
-    let z = c .before .before .before .before .before .before in
-    let w = summed (z .pre .0) (z .pre .1) (c .before .before .before .before .before .pair-of .ensures) (c .before .before .before .before .pair-of2 .ensures) (c .before .before .before .rounds .ensures) in
+    let b = c .before .before .before in
+    let z = b .before .before .before in
+    let w = b .rounds .ensures (z .pre .0) (first-at (z .pre .1) (b .before .before .pair-of .ensures) (b .before .pair-of2 .ensures)) in
     widen (lit≤ tt) (powers-held (c .before .before .one-round .ensures (z .pre .0) w) (lit≤ tt) true .r)
 
 returns : tie.Need-returns
 unfolding exponential-sum r256
 returns c =
     λ E h.
-    let w = summed E h (c .before .before .before .before .before .before .pair-of .ensures) (c .before .before .before .before .before .pair-of2 .ensures) (c .before .before .before .before .rounds .ensures) in
+    let b = c .before .before .before .before in
+    let w = b .rounds .ensures E (first-at h (b .before .before .pair-of .ensures) (b .before .pair-of2 .ensures)) in
     let last = c .before .before .before .one-round .ensures E w in (
       c .before .before .side .ensures ∙ ap (λ (w : PowersOf Scaled). w .sum) (w .powers-are false),
       c .before .side2 .ensures ∙ ap (λ (w : PowersOf Scaled). w .sum) (w .powers-are true),

@@ -10,7 +10,7 @@ use borrow.Author.Needs.{needs}
 use Rattle.encounter.proofs.steps.powers.rounds.Statement.{statement}
 use Rattle.encounter.proofs.steps.powers.rounds.Tie as tie
 
--- of which encounter the numbers are at k₀, of that they are at k
+-- whichever encounter's numbers t and w₀ are at k₀, t and w are the same encounter's at k
 abbrev Inv-loop : tie.InvT-loop
 Inv-loop t w₀ k₀ w k = (k ≤ pred exponential-cut) × ((E : Encounter) → Powers-at E k₀ t w₀ → Powers-at E k t w)
 
