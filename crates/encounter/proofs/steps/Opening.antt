@@ -42,8 +42,9 @@ pub first-side : (up : Bool) (E : Encounter) {l : Letters} {c x : Scaled} {s : T
 unfolding side side-terms
 first-side up E el ex ec es = rw (es, el, ex, ec, terms-zero up (side-letters up E) (side-start up E))
 
-pub t-of : (E : Encounter) {lo hi : Letters} → Accepted E → lo ≡ held-letters (side-letters false E) → hi ≡ held-letters (side-letters true E) → T-of E (lo .t) (hi .t)
-t-of E a el eh = (a, ap (λ (l : Letters). l .t) el, ap (λ (l : Letters). l .t) eh)
+-- both t, as the exponential takes them
+pub t-are : (E : Encounter) {lo hi : Letters} → Accepted E → lo ≡ held-letters (side-letters false E) → hi ≡ held-letters (side-letters true E) → T-of E (lo .t) (hi .t)
+t-are E a el eh = (a, ap (λ (l : Letters). l .t) el, ap (λ (l : Letters). l .t) eh)
 
 -- c(0) of a side at order 1
 start-of : (up : Bool) (E : Encounter) → side up E 1 .terms .c ≡ side-start up E

@@ -1,5 +1,5 @@
--- Premises of the private arithmetic, no line of the paper: bounds on an encounter's inputs, and how far the exponents of a side's letters, terms and powers go.
--- proofs/Accepted.antt and proofs/Exponents.antt discharge them.
+-- Premises of the private arithmetic, no line of the paper: bounds on an encounter's inputs, and how far the exponents of a side's letters and terms go; and how
+-- far those of its powers go, which only laws name. proofs/Accepted.antt and proofs/Exponents.antt prove them.
 use Prim.Native.Nat.{ℕ, _≤_, _<_}
 use mathlib.Core.Bool.{cond}
 use lib.IntN.{natAbs}

@@ -1,6 +1,6 @@
 use mathlib.Core.Bool.{true}
 use Rattle.exact.proofs.Accepted.{facts}
-use Rattle.encounter.proofs.steps.Opening.{letters-fine, t-of, side-start-fine, bound-fine, opened-is}
+use Rattle.encounter.proofs.steps.Opening.{letters-fine, t-are, side-start-fine, bound-fine, opened-is}
 use Rattle.encounter.proofs.calls.opening.opened.Statement.{statement}
 use Rattle.encounter.proofs.calls.opening.opened.Tie as tie
 
@@ -8,18 +8,18 @@ letters-requires : tie.Need-letters-requires
 letters-requires c κs = facts (c .pre .0) .bounds
 
 exponential-sums-requires : tie.Need-exponential-sums-requires
-exponential-sums-requires c κs = let z = c .before in (z .args .E, t-of (z .args .E) (z .pre .0) (c .letters .ensures) (z .pre .1))
+exponential-sums-requires c κs = let z = c .before in (z .args .E, t-are (z .args .E) (z .pre .0) (c .letters .ensures) (z .pre .1))
 
 open-side-requires : tie.Need-open-side-requires
 open-side-requires c κs =
     let z = c .before .before in
     let l = c .before .letters .ensures in
-    (facts (z .pre .0) .bounds, l, c .exponential-sums .ensures (z .args .E) (t-of (z .args .E) (z .pre .0) l (z .pre .1)) .0)
+    (facts (z .pre .0) .bounds, l, c .exponential-sums .ensures (z .args .E) (t-are (z .args .E) (z .pre .0) l (z .pre .1)) .0)
 
 open-side-requires-2 : tie.Need-open-side-requires-2
 open-side-requires-2 c κs =
     let z = c .before .before .before in
-    (facts (z .pre .0) .bounds, z .pre .1, c .before .exponential-sums .ensures (z .args .E) (t-of (z .args .E) (z .pre .0) (c .before .before .letters .ensures) (z .pre .1)) .1)
+    (facts (z .pre .0) .bounds, z .pre .1, c .before .exponential-sums .ensures (z .args .E) (t-are (z .args .E) (z .pre .0) (c .before .before .letters .ensures) (z .pre .1)) .1)
 
 bound-requires : tie.Need-bound-requires
 bound-requires c κs = let z = c .before .before .before .before in letters-fine true (z .args .E) (facts (z .pre .0) .bounds) (z .pre .1)
@@ -31,7 +31,7 @@ returns : tie.Need-returns
 returns c =
     let z = c .before .before .before .before .before .before .before in
     opened-is (z .args .E) (z .pre .1) (c .before .before .before .before .open-side .ensures) (c .before .before .before .open-side2 .ensures)
-    (c .before .before .before .before .before .exponential-sums .ensures (z .args .E) (t-of (z .args .E) (z .pre .0) (c .before .before .before .before .before .before .letters .ensures) (z .pre .1)) .2) (c .before .before .bound .ensures) (c .before .first-tail .ensures)
+    (c .before .before .before .before .before .exponential-sums .ensures (z .args .E) (t-are (z .args .E) (z .pre .0) (c .before .before .before .before .before .before .letters .ensures) (z .pre .1)) .2) (c .before .before .bound .ensures) (c .before .first-tail .ensures)
 
 pub opened-spec : {M : Type 1} → statement M
 opened-spec =
