@@ -16,7 +16,10 @@ pub mod Parallel
 pub mod Accepted
 pub mod Enclosure
 pub mod LowerEnds
+pub mod SmallestEnd
 pub mod Powers
 pub mod Closeness
 pub mod Exponents
 pub mod Mirror
+pub mod Least
+pub mod Decimals

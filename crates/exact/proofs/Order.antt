@@ -1,6 +1,6 @@
 -- The order of scaled numbers by exponent and mantissa, and that halving and doubling are exact.
 use mathlib.Core.Path.{_≡_, refl, sym, _∙_, ap}
-use mathlib.Core.Bool.{Bool, true, false, not}
+use mathlib.Core.Bool.{Bool, true, false, not, true≢false}
 use mathlib.Core.Logic.{⊎-elim}
 use Prim.Native.Nat.{ℕ, _+_, _*_, _^_, _≤_, _<_}
 use native.Mathlib.Nat.{mul-le-mul-left, mul-le-mul-right, mul-lt-mul-of-pos-right, mul-one, mul-pos, le-of-lt}
@@ -40,6 +40,17 @@ not-above p q h = at-most-holds p q (go (at-most p q) h)
 pub at-most-no : (p q : Frac) → q ≺ p → at-most p q ≡ false
 unfolding at-most
 at-most-no p q h = lt-leb _ _ (h .lt)
+
+pub above-yes : (p q : Frac) → q ≺ p → above p q ≡ true
+unfolding above
+above-yes p q h = ap not (at-most-no p q h)
+
+pub above-no : (p q : Frac) → p ≼ q → above p q ≡ false
+unfolding above
+above-no p q h = ap not (at-most-yes p q h)
+
+pub above-holds : (p q : Frac) → above p q ≡ true → q ≺ p
+above-holds p q h = ⊎-elim (λ l. l) (λ l. absurd (true≢false (sym h ∙ above-no p q l))) (≺-or-≼ q p)
 
 -- ---- by exponent and mantissa
 

@@ -7,3 +7,4 @@ pub mod Series
 pub mod Steps
 pub mod Records
 pub mod Refusals
+pub mod Decimals

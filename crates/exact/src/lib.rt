@@ -1,5 +1,5 @@
-// The scaled number of document 01, with the constants and the constructor that belong to it, the five inputs of an encounter, and the paper's limits. All else
-// in this crate is definitions (specs/) and theorems (proofs/).
+// The scaled number of document 01, with the constants and the constructor that belong to it, the five inputs of an encounter, a decimal, and the paper's limits.
+// All else in this crate is definitions (specs/) and theorems (proofs/).
 ghost use mathlib.Core.Path.{_≡_};
 ghost use mathlib.Core.Bool.{false};
 ghost use Prim.Native.Nat.{_^_, _<_};
@@ -34,6 +34,13 @@ pub struct Encounter {
 pub struct Scaled {
     pub m: u32,
     pub e: i32,
+}
+
+// d.ddd × 10^-power, where digits is dddd.
+#[repr(C)]
+pub struct Decimal {
+    pub digits: u32,
+    pub power: u32,
 }
 
 // -t, for a t that fits.
