@@ -1,6 +1,8 @@
-"""What is due of the ends and the class of an accepted read, by exact fractions."""
+"""What is due of the ends, the class and the decimals of an accepted read, by exact fractions."""
 
 import math
+import re
+from fractions import Fraction
 
 import exact_series
 from encounters import PROBABILITY
@@ -56,6 +58,27 @@ def has_its_class(answer):
         "open": not reaches_threshold(answer.lower) and reaches_threshold(answer.upper),
     }
     return [name for name, holds in falls_under.items() if holds] == [answer.class_name]
+
+
+# "d.ddd, then `e-` and k − 3 in two decimal digits"
+DECIMAL = re.compile(r"[1-9]\.[0-9]{3}e-[0-9]{2}")
+
+
+def has_its_decimals(answer, printed):
+    """Request #103: whether the promises hold of the two decimals, as they are printed."""
+    if len(printed) != 2 or not all(map(DECIMAL.fullmatch, printed)):
+        return False
+    ends = [Fraction(*scaled_pair(end)) for end in (answer.lower, answer.upper)]
+    # "An end of 1 or more prints as 1.000e-00."
+    if any(end >= 1 and text != "1.000e-00" for end, text in zip(ends, printed)):
+        return False
+    lower, upper = map(Fraction, printed)
+    # "A printed lower end is never above its end, a printed upper end below 1 never below it"
+    if lower > ends[0] or (upper < ends[1] and ends[1] < 1):
+        return False
+    # "and each print of an end below 1 is off by at most two in the last digit": of d.ddde-kk that is 0.002e-kk.
+    near = (abs(Fraction(text) - end) <= Fraction("0.002" + text[5:]) for text, end in zip(printed, ends) if end < 1)
+    return all(near)
 
 
 def as_float(a):

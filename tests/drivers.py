@@ -298,3 +298,26 @@ fn main() {
     }
 }
 """
+
+# The decimals. Reads records of 9 bytes: the direction (1 for an upper end), then m and e, little-endian. Writes the
+# digits and the power.
+DECIMALS = """\
+mod words;
+use crate::words::put;
+use crate::words::signed;
+use crate::words::word;
+use encounter::decimals::to_decimal;
+use exact::Scaled;
+
+fn main() {
+    let mut b = [0u8; 9];
+    let mut line = [10u8; 17];
+    while io::read_full(0, &mut b) == 9 {
+        let x = Scaled { m: word(&b, 1), e: signed(word(&b, 5)) };
+        let a = to_decimal(b[0] == 1, x);
+        let next = put(&mut line, 0, a.digits);
+        put(&mut line, next, a.power);
+        io::write_all(1, &line);
+    }
+}
+"""

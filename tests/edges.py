@@ -1,9 +1,9 @@
-"""Fractions, encounters, orders and scripts with the answer that document 01 gives."""
+"""Fractions, encounters, orders and scripts with the answer that document 01 gives, and numbers with their decimals."""
 
 from encounters import ALFANO_3, ALFANO_5, FULL, HALF, LARGE, PAST_FULL, TEST_1, THIN
 from records import KINDS, MOST_COUNT, READ, add, begin
 from reference import LARGEST, LARGEST_N, LONGEST_SCRIPT
-from scaled import LEAST, ONE, ZERO, Scaled
+from scaled import LEAST, LIMIT, ONE, ZERO, Scaled
 
 # n, d, D(n/d) and U(n/d).
 RATIOS = (
@@ -23,6 +23,80 @@ ANSWERS = {
 PAST = LARGEST + 1
 MOST_32 = (1 << 32) - 1
 LOW, HIGH = -(1 << 31), (1 << 31) - 1
+
+# Request #103: m, e, and the decimals of m × 2^e as a lower and as an upper end.
+DECIMALS = (
+    # (10, 10, 10, 0, 0) at N = 3 has these two ends.
+    (3364829335, -33, "3.917e-01", "3.918e-01"),
+    (3391965302, -33, "3.948e-01", "3.949e-01"),
+    # Around 1, and far above it. U(1,000 − 1,000 × 2^-32) is 1,000, so there k is 3.
+    (LIMIT - 3, -32, "9.999e-01", "1.000e-00"),
+    (LIMIT - 2, -32, "9.999e-01", "1.000e-00"),
+    (LIMIT - 1, -32, "9.999e-01", "1.001e-00"),
+    (*ONE, "1.000e-00", "1.000e-00"),
+    (LEAST + 1, -31, "1.000e-00", "1.000e-00"),
+    (LEAST, -30, "1.000e-00", "1.000e-00"),
+    (3604241660, 801, "1.000e-00", "1.000e-00"),
+    (LIMIT - 1, HIGH, "1.000e-00", "1.000e-00"),
+    # The product is whole.
+    (LEAST, -32, "5.000e-01", "5.001e-01"),
+    (LEAST, -34, "1.250e-01", "1.251e-01"),
+    # U(1/10) and D(1/10), for which U of the product with 10^4 is 1,000 too, and the number below.
+    (3435973837, -35, "1.000e-01", "1.001e-01"),
+    (3435973836, -35, "9.999e-02", "1.001e-01"),
+    (3435973835, -35, "9.999e-02", "1.000e-01"),
+    # The lower whole part is 10,000. There are no others.
+    (3961408126, -95, "9.999e-20", "1.001e-19"),
+    (2535301201, -101, "9.999e-22", "1.001e-21"),
+    (4153837488, -115, "9.999e-26", "1.001e-25"),
+    (2854495386, -151, "9.999e-37", "1.001e-36"),
+    (3653754094, -158, "9.999e-39", "1.001e-38"),
+    (3741444192, -168, "9.999e-42", "1.001e-41"),
+    # The upper whole part is 10,000, so the upper digits are 10,001; then the number below, where they are 10,000.
+    (2199023255, -41, "9.999e-04", "1.001e-03"),
+    (2199023254, -41, "9.999e-04", "1.000e-03"),
+    (3689348813, -65, "9.999e-11", "1.001e-10"),
+    (3689348812, -65, "9.999e-11", "1.000e-10"),
+    (3653754091, -158, "9.999e-39", "1.001e-38"),
+    (3653754090, -158, "9.999e-39", "1.000e-38"),
+    (2338402619, -164, "9.999e-41", "1.001e-40"),
+    # The least end that an encounter below has.
+    (3381150765, -168, "9.037e-42", "9.038e-42"),
+    # Around 10^-43, where the table ends.
+    (2394524284, -174, "1.000e-43", "1.001e-43"),
+    (2394524283, -174, "0.000e-00", "1.001e-43"),
+    (2394524282, -174, "0.000e-00", "1.001e-43"),
+    (2394524281, -174, "0.000e-00", "1.000e-43"),
+    (LEAST, -174, "0.000e-00", "1.000e-43"),
+    (LEAST, -(1 << 20), "0.000e-00", "1.000e-43"),
+    (LEAST, LOW, "0.000e-00", "1.000e-43"),
+    (*ZERO, "0.000e-00", "0.000e-00"),
+    # Not in the scaled form.
+    (0, -1, "0.000e-00", "0.000e-00"),
+    (0, 1, "0.000e-00", "0.000e-00"),
+    (0, LOW, "0.000e-00", "0.000e-00"),
+    (0, HIGH, "0.000e-00", "0.000e-00"),
+    (1, 0, "1.000e-00", "1.000e-00"),
+    (1, HIGH, "1.000e-00", "1.000e-00"),
+    (1, -1, "5.000e-01", "5.001e-01"),
+    (3, -2, "7.500e-01", "7.501e-01"),
+    (LEAST - 1, -31, "9.999e-01", "1.000e-00"),
+    (LEAST - 1, -32, "4.999e-01", "5.000e-01"),
+    (1, -142, "1.793e-43", "1.794e-43"),
+    (1, -143, "0.000e-00", "1.000e-43"),
+    (1, LOW, "0.000e-00", "1.000e-43"),
+)
+# As a lower end (false) or an upper one: m and e of a number whose decimal is off by more than one in the last digit.
+MORE_THAN_ONE = (
+    (False, 3961408126, -95),
+    (False, 4153837488, -115),
+    # The whole part is 9,033, and the exact product is above 9,034.
+    (False, 2345360492, -111),
+    (True, LIMIT - 1, -32),
+    (True, 3689348813, -65),
+    # The whole part is 9,980, and the exact product is below it.
+    (True, 2173451533, -134),
+)
 
 # Each encounter with the refusal of its begin, or 0.
 BEGINS = (
@@ -78,6 +152,35 @@ LEAST_ORDERS = (
     ("(8, 1, 1, 8, 0)", FULL, 2110),
     ("Test 1", TEST_1, 36),
     ("Alfano 3", ALFANO_3, 597),
+)
+
+
+# Request #103: encounters with an end at an edge of the decimals, the order, and what the read prints after that.
+AT_DECIMAL_EDGES = (
+    (HALF, 3, "3364829335 -33 3391965302 -33 alert 3.917e-01 3.949e-01"),
+    # The upper end is 1 − 2^-32, 1 − 2^-31, 1, the next one above 1, and far above it.
+    ((4778498, 1167591, 1167591, 190612, 51940), 19, "4291938013 -32 4294967295 -32 alert 9.992e-01 1.001e-00"),
+    ((7136390, 1648935, 1648935, 323971, 41207), 22, "4294020089 -32 4294967294 -32 alert 9.997e-01 1.000e-00"),
+    ((7136391, 1648935, 1648935, 323971, 41207), 22, "4294020093 -32 2147483648 -31 alert 9.997e-01 1.000e-00"),
+    ((2078237, 444957, 444957, 23685, 10260), 25, "4294578130 -32 2147483649 -31 alert 9.999e-01 1.000e-00"),
+    (ALFANO_3, 597, "3449859490 -35 2640538691 133 alert 1.004e-01 1.000e-00"),
+    # The upper digits are 10,000.
+    ((18579, 95136, 18760, 0, 4640), 1, "3946895211 -36 3435896920 -35 alert 5.743e-02 1.000e-01"),
+    # They are 10,001, with k = 7, 8, 10, 14 and 23.
+    ((341483, 5435294, 3263578, 8302861, 763390), 1, "2177947170 -41 2199023255 -41 alert 9.904e-04 1.001e-03"),
+    ((1241890, 5822809, 2710891, 8414864, 9077603), 1, "4002590475 -46 3518437208 -45 clear 5.688e-05 1.001e-04"),
+    ((334841, 9432430, 1845876, 5688827, 7394630), 1, "3894166177 -52 2251799813 -51 clear 8.646e-07 1.001e-06"),
+    ((14521, 5544676, 2035999, 8072551, 9278886), 1, "3688226503 -65 3689348813 -65 clear 9.996e-11 1.001e-10"),
+    ((10, 6905616, 1118359, 3405943, 6684811), 1, "3961407763 -95 3961408123 -95 clear 9.999e-20 1.001e-19"),
+    # The lower whole part is 10,000, with k = 23, 25, 29, 40, 42 and 45.
+    ((632, 5506137, 1379156, 4053824, 9949895), 1, "3961408126 -95 3961419941 -95 clear 9.999e-20 1.001e-19"),
+    ((915, 6506283, 1239134, 4525395, 9810138), 1, "2535301201 -101 2535324171 -101 clear 9.999e-22 1.001e-21"),
+    ((713, 7456382, 1070052, 9443772, 9510901), 1, "4153837488 -115 4153875956 -115 clear 9.999e-26 1.001e-25"),
+    ((1, 5830096, 918637, 7377828, 9376401), 1, "2854495386 -151 2854495823 -151 clear 9.999e-37 1.001e-36"),
+    ((1, 6999104, 932692, 6177940, 9950421), 1, "3653754094 -158 3653754612 -158 clear 9.999e-39 1.001e-38"),
+    ((1, 9448725, 885686, 9743762, 9975327), 1, "3741444192 -168 3741444777 -168 clear 9.999e-42 1.001e-41"),
+    # t is less than 64 by about 10^-7, and the sigmas are as large as the misses then allow. No smaller end is known.
+    ((1, LARGEST, 887356, 9999905, 9999995), 1, "3381150765 -168 3381151276 -168 clear 9.037e-42 9.038e-42"),
 )
 
 
@@ -142,6 +245,15 @@ def of_lengths():
     yield "kind 0, and too long", bytes(LONGEST_SCRIPT + 1), "0 refused 8\n"
 
 
+def of_decimals():
+    for inputs, N, printed in AT_DECIMAL_EDGES:
+        name, script = f"the decimals of {tuple(inputs)} at {N}", begin(*inputs)
+        if N == 1:
+            yield name, script + READ, f"0 begun 1\n21 read 1 {printed}\n"
+        else:
+            yield name, script + add(N - 1) + READ, f"0 begun 1\n21 added {N}\n24 read {N} {printed}\n"
+
+
 def scripts():
-    for part in of_document, of_refusals_1_and_2, of_the_state, of_lengths:
+    for part in of_document, of_refusals_1_and_2, of_the_state, of_decimals, of_lengths:
         yield from part()

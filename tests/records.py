@@ -1,8 +1,10 @@
-"""The records of a script and the program's listing, by document 01."""
+"""The records of a script and the program's listing, by documents 01 and 02."""
 
+import functools
 import struct
 from typing import NamedTuple
 
+import decimals
 from reference import LONGEST_SCRIPT, Answer, Session
 
 
@@ -78,6 +80,12 @@ def records(script):
 # What the program prints.
 
 
+# A script may read one order many times.
+@functools.lru_cache(1000)
+def decimal_text(up, end):
+    return decimals.text(decimals.decimal(up, end))
+
+
 def line(record, answer):
     """The line of one record."""
     if answer.refusal:
@@ -85,6 +93,9 @@ def line(record, answer):
     words = [record.position, record.kind.said, answer.N]
     if record.kind.call == "read":
         words += [*answer.lower, *answer.upper, answer.class_name]
+        # Request #103: "The read line should offer each end as four significant digits and a power of ten. Anything a
+        # ticket adds to the read line or to a read's answer is printed at the line's end, in ticket order."
+        words += [decimal_text(False, answer.lower), decimal_text(True, answer.upper)]
     return " ".join(map(str, words)) + "\n"
 
 
@@ -97,7 +108,7 @@ def listing(script):
 
 
 def printed(line):
-    """The answer that a line shows."""
+    """The answer that a line shows; its decimals are not part of it."""
     _, said, *rest = line.split(" ")
     if said == "refused":
         return Answer(int(rest[0]))
@@ -105,3 +116,8 @@ def printed(line):
         N, ml, el, mh, eh = map(int, rest[:5])
         return Answer(0, N, (ml, el), (mh, eh), rest[5])
     return Answer(N=int(rest[0]))
+
+
+def printed_decimals(line):
+    """The two decimals that a read's line shows."""
+    return line.split()[8:10]

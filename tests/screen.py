@@ -5,7 +5,8 @@
 
 The scripts: those of edges.py with their listings, those of examples/, the begins of edges.py, freshly drawn ones, one
 cut short at every length, wrong ones, the longest ones, and some that come in small pieces. Then reads and writes that
-fail, and the encounters of documents 000 and 003: the exact quotients are between the ends that `screen` prints.
+fail, and the encounters of documents 000 and 003: the exact quotients are between the ends that `screen` prints, and
+its decimals are as near these ends as request #103 says.
 Exits with 1 where anything differs.
 """
 
@@ -27,7 +28,7 @@ import orders
 from checks import Checks, shortened
 from edges import BEGIN_FULL, BEGIN_HALF
 from encounters import ALFANO_3, ALFANO_5, AT_THRESHOLD, DOCUMENTS, FULL, SMALL, TEST_1
-from records import READ, add, begin, listing, printed
+from records import READ, add, begin, listing, printed, printed_decimals
 from reference import LARGEST, LARGEST_N, LARGEST_T, LONGEST_SCRIPT, Answer
 
 EXAMPLES = options.ROOT / "examples"
@@ -198,6 +199,7 @@ def of_classes():
             if " read " in line:
                 read = printed(line)
                 check(brackets.has_its_class(read), f"class: {line}")
+                check(brackets.has_its_decimals(read, printed_decimals(line)), f"decimals: {line}")
                 classes.add(read.class_name)
     check(classes == set(fields.CLASSES), f"only the classes {classes}")
 
@@ -283,6 +285,8 @@ def of_documents(name, encounter):
         check(ok, f"{name}: {what}")
     for read in answers:
         check(brackets.has_its_class(read), f"{name}: class at {read.N}")
+        line = lines[2 * read.N - 1]
+        check(brackets.has_its_decimals(read, printed_decimals(line)), f"{name}: decimals, {line}")
 
 
 def main():

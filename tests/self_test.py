@@ -1,20 +1,25 @@
 #!/usr/bin/env python3
-"""Tests reference.py, rounded.py and records.py.
+"""Tests reference.py, rounded.py, decimals.py and records.py.
 
     python3 tests/self_test.py
 
 The arithmetic is compared with scaled.py, and every stored number with document 01's steps on scaled.py's numbers. The
-calls and the listing are compared with the answers of edges.py.
+decimals are compared with request #103 by exact fractions, and its three promises are tested on them. The calls, the
+decimals and the listing are compared with the answers of edges.py.
 """
 
 import copy
+import math
 import random
 import sys
 from fractions import Fraction
 
 sys.dont_write_bytecode = True
+import brackets
+import decimals
 import drawn
 import edges
+import ends
 import options
 import orders
 import records
@@ -23,7 +28,7 @@ import scaled
 from checks import Checks
 from encounters import DOCUMENTS, FULL, HALF, SMALL, TEST_1
 from records import MOST_COUNT
-from reference import EXPONENTIAL_CUT, LARGEST_N, Answer, Session, Side
+from reference import EXPONENTIAL_CUT, LARGEST, LARGEST_N, Answer, Session, Side
 from scaled import LEAST, LIMIT, ZERO, Scaled
 
 checks = Checks("self_test")
@@ -142,6 +147,121 @@ def of_steps(rng):
     checks.check(reads > 0, "sessions", "no read is accepted")
 
 
+# The decimals.
+
+
+def by_fractions(up, x):
+    """Request #103 on fractions: the text of a scaled number for which the table has a k."""
+    if scaled.value(x) >= 1:
+        return "1.000e-00"
+    for k in range(47):
+        entry = scaled.rounded(up, Fraction(10) ** k)
+        product = scaled.value(scaled.rounded(up, scaled.value(x) * scaled.value(entry)))
+        if product >= 1000:
+            break
+    w = math.floor(product)
+    if not up:
+        w = 9999 if w == 10_000 else w
+        return f"{w // 1000}.{w % 1000:03}e-{k - 3:02}"
+    if w + 1 in (10_000, 10_001):
+        return f"1.00{w + 1 - 10_000}e-{k - 4:02}"
+    return f"{(w + 1) // 1000}.{(w + 1) % 1000:03}e-{k - 3:02}"
+
+
+def of_table():
+    for up, entries in decimals.TABLE.items():
+        checks.check(len(entries) == 47, "decimals", f"the table has {len(entries)} entries")
+        for k, entry in enumerate(entries):
+            ok = scaled.is_rounded(up, entry, Fraction(10**k)) and (scaled.value(entry) == 10**k) == (k <= 13)
+            checks.check(ok, "decimals", f"10^{k}, up = {up}: {entry}")
+
+
+# The k for which the whole part of some number is 10,000.
+LOWER_10_000 = {23, 25, 29, 40, 42, 45}
+UPPER_10_000 = {7, 8, 10, 11, 14, 16, 18, 19, 20, 21, 23, 25, 29, 32, 35, 38, 40, 42, 44}
+
+
+def of_10_000():
+    """For which k the whole part may be 10,000; such a number is within some steps of 10^(4 − k)."""
+    for up, due in (False, LOWER_10_000), (True, UPPER_10_000):
+        found = [
+            (k, x)
+            for k in range(4, 47)
+            for x in ends.next_to(Fraction(10**4, 10**k), 8)
+            if decimals.least_power(up, x) == k and decimals.whole_part(decimals.times_power(up, x, k)) == 10_000
+        ]
+        checks.check({k for k, _ in found} == due, "decimals", f"10,000, up = {up}: {found}")
+        # Every lower one stands in edges.py.
+        listed = {(m, e) for m, e, *_ in edges.DECIMALS}
+        checks.check(up or {x for _, x in found} <= listed, "decimals", f"10,000, up = {up}: {found}")
+
+
+def of_least_end():
+    """The table has a k for every end of an accepted read: lower ends are above 8 × 10^-43.
+
+    c(0) is least for the least R and the largest sigmas, and the upper exponential is largest for t = 64.
+    """
+    session = orders.begun(FULL)
+    above = rounded.UP.plus(session.upper.exponential, rounded.doubled(session.r256))
+    least = Scaled(*rounded.DOWN.quotient(rounded.DOWN.ratio(1, 2 * LARGEST**2), above))
+    found = [decimals.text(decimals.decimal(up, least)) for up in (False, True)]
+    ok = scaled.value(least) > Fraction(8, 10**43) and found == ["8.019e-43", "8.020e-43"]
+    checks.check(ok, "decimals", f"no lower end is below {least}: {found}")
+
+
+def promised(up, x):
+    """Whether the request's promises hold of the decimal of x, and whether it is off by more than one."""
+    a, q = decimals.decimal(up, x), scaled.value(x)
+    found = q >= 1 or decimals.least_power(up, decimals.in_form(x)) is not None
+    ok = 0 <= a.power <= 43 and (1000 <= a.digits <= 9999 if found else a.digits in (0, 1000))
+    # "A printed lower end is never above its end, a printed upper end below 1 never below it"
+    if not up:
+        ok = ok and decimals.value(a) <= q
+    elif q < 1:
+        ok = ok and decimals.value(a) >= q
+    # "and each print of an end below 1 is off by at most two in the last digit."
+    if q >= 1 or not found:
+        return ok, False
+    off = decimals.off(a, x)
+    return ok and off <= 2, off > 1
+
+
+def of_decimals(rng):
+    def check(ok, what):
+        checks.check(ok, "decimals", what)
+
+    of_table()
+    of_10_000()
+    of_least_end()
+    for m, e, *due in edges.DECIMALS:
+        found = [decimals.text(decimals.decimal(up, (m, e))) for up in (False, True)]
+        check(found == due, f"{m} {e}: {found}")
+    # A number whose e is far out is no fraction that can be formed.
+    numbers = [x for x in ends.numbers(rng) if abs(x.e) < 1000]
+    for up in False, True:
+        powers, more = set(), 0
+        for n, x in enumerate(numbers):
+            ok, more_than_one = promised(up, x)
+            check(ok, f"the promises for {x}, up = {up}")
+            a = decimals.decimal(up, x)
+            powers.add(a.power)
+            more += more_than_one
+            form = decimals.in_form(x)
+            check(scaled.is_scaled(form) and scaled.value(form) == scaled.value(x), f"the form of {x}")
+            if n % 10 == 0 and (scaled.value(x) >= 1 or decimals.least_power(up, form) is not None):
+                check(decimals.text(a) == by_fractions(up, form), f"{x}, up = {up}: {a}")
+        check(powers == set(range(44)), f"powers, up = {up}: {sorted(powers)}")
+        # At most one in the last digit would be false.
+        check(more > 100, f"off by more than one, up = {up}: {more}")
+    for up, m, e in edges.MORE_THAN_ONE:
+        off = decimals.off(decimals.decimal(up, (m, e)), (m, e))
+        check(1 < off < 1 + Fraction(1, 10**5), f"{m} {e}, up = {up}, is off by {float(off)}")
+    for _ in range(1000):
+        a, b = rng.choice(numbers), number(rng, rng.randrange(-200, 20))
+        if b != ZERO and scaled.is_scaled(a):
+            check(decimals.at_least(a, b) == (scaled.value(a) >= scaled.value(b)), f"at_least: {a} {b}")
+
+
 # The calls.
 
 
@@ -180,6 +300,10 @@ def of_calls(rng):
 def of_scripts():
     for name, script, due in edges.scripts():
         checks.check(records.listing(script) == due, "listings", name)
+    for name, script, due in edges.of_decimals():
+        line = due.splitlines()[-1]
+        ok = brackets.has_its_decimals(records.printed(line), records.printed_decimals(line))
+        checks.check(ok, "listings", f"the promises, {name}")
     # At the end of a script there is no kind byte.
     script = records.begin(*HALF)
     for position in len(script), len(script) + 1:
@@ -192,6 +316,7 @@ def main():
     rng = random.Random(options.SEED)
     of_arithmetic(rng)
     of_steps(rng)
+    of_decimals(rng)
     of_calls(rng)
     of_scripts()
     checks.end()

@@ -186,8 +186,10 @@ def of_readme():
     line = blocks(section("A line of a listing"))[0]
     checks.check(len(line) == 1 and line[0] in test_1, "README", f"the line: {line}")
     answer = records.printed(line[0])
-    for part in f"`{line[0].split()[0]}`", f"`{answer.N}`", *(f"`{m} {e}`" for m, e in (answer.lower, answer.upper)):
-        checks.check(f"| {part} |" in README, "README", f"the field {part}")
+    due = [f"{m} {e}" for m, e in (answer.lower, answer.upper)]
+    due += [records.decimal_text(False, answer.lower), records.decimal_text(True, answer.upper)]
+    for part in line[0].split()[0], answer.N, answer.class_name, *due:
+        checks.check(f"| `{part}` |" in README, "README", f"the field {part}")
     bytes_ = blocks(section("A script, byte by byte"))[0][0]
     same("README", "the bytes", bytes_.split(), script[:21].hex(" ").split())
     checks.check(f"`{script[1:5].hex(' ')}` | R = 244 + 1 × 256 = 500" in README, "README", "the bytes of R")

@@ -6,4 +6,6 @@ pub mod Invariant
 pub mod Lending
 pub mod Rows
 pub mod Claiming
+pub mod AcceptedReads
 pub mod Classes
+pub mod PrintedEnds

@@ -2,5 +2,6 @@
 // steps are private, the calls public.
 mod arithmetic;
 pub mod calls;
+pub mod decimals;
 pub mod state;
 mod steps;

@@ -1,20 +1,21 @@
 -- Request #103: a number in decimal is not above it, or not below it, and off by at most two in the last digit.
 use mathlib.Core.Path.{_≡_, refl, sym, _∙_, ap}
-use mathlib.Core.Bool.{Bool, true, false, cond, true≢false}
+use mathlib.Core.Bool.{Bool, true, false, not, cond, true≢false}
 use mathlib.Core.Logic.{⊎-elim}
 use Prim.Native.Nat.{ℕ, zero, suc, pred, _+_, _-_, _*_, _^_, _≤_, _<_}
-use native.Mathlib.Nat.{le-of-suc-le-suc, le-of-mul-le-mul-right, mul-le-mul-right, div-lt-iff-lt-mul, div-add-mod', le-div-iff-mul-le, mod-lt, pow-succ', pow-le-pow-right, one-le-pow, suc-pred-eq-of-pos}
+use native.Mathlib.Nat.{le-of-suc-le-suc, le-of-mul-le-mul-right, mul-le-mul-left, mul-le-mul-right, div-lt-iff-lt-mul, div-add-mod', le-div-iff-mul-le, mod-lt, pow-succ', pow-le-pow-right, one-le-pow, suc-pred-eq-of-pos}
 use native.Mathlib.Omega.{arith}
 use lib.Dec.{T, ltb, lit<, lit≤, eqb, eqb→eq}
-use borrow.Author.Tests.{lt-ltb, le-ltb, ltb-true, ltb-false, eqb-false}
+use borrow.Author.Tests.{lt-ltb, le-ltb, eqb-false, eq-eqb, ne-eqb}
+use native.Mathlib.Decide.{ℕ-discrete}
 use Rattle.exact.specs.declared.Scaled.{Scaled}
 use Rattle.exact.specs.declared.Decimal.{Decimal}
-use Rattle.exact.specs.Fraction.{Frac, _≼_, _≈_, _⊕_, _⊗_, _over_, whole}
+use Rattle.exact.specs.Fraction.{Frac, _≼_, _≈_, _⊕_, _⊗_, _over_, whole, at-most, above}
 use Rattle.exact.specs.Scaled.{value}
-use Rattle.exact.specs.Decimals.{table-length, entry, times-power, reaches, least-power, floor, digits-of, at-power, one-or-more, nothing, too-small, below-1, decimal-of, worth, two-units, Found, Printed}
-use Rattle.exact.proofs.Fractions.{_≺_, ≼-refl, ≼-trans, ≼-≺, ≺-≼, ≼-of-≺, ≺-irrefl, ≺-or-≼, ≼-of, ≽-of, lt-or-le, mul-mono, mul-assoc, drop-last}
-use Rattle.exact.proofs.Order.{at-most-yes, at-most-no, at-most-holds, not-above, above-holds}
-use Rattle.exact.proofs.Rounding.{slack, round-is, round-close, round-mono}
+use Rattle.exact.specs.Decimals.{table-length, entry, times-power, reaches, least, least-power, floor, digits-of, at-power, one-or-more, nothing, too-small, below-1, decimal-of, worth, two-units, Found, Printed}
+use Rattle.exact.proofs.Fractions.{_≺_, ≼-refl, ≼-trans, ≼-≺, ≺-≼, ≼-of-≺, ≺-irrefl, ≺-or-≼, ≼-of, ≽-of, lt-or-le, ≈-refl, mul-cong, mul-mono, mul-assoc, drop-last}
+use Rattle.exact.proofs.Order.{at-most-yes, at-most-no, at-most-holds, at-most-cong, not-above, above-holds}
+use Rattle.exact.proofs.Rounding.{slack, round-is, round-close, round-mono, round-cong}
 use Rattle.exact.proofs.Operations.{whole-exact}
 use Rattle.exact.proofs.Least.{least-before, least-here}
 
@@ -40,7 +41,7 @@ pub floor-least : (q : Frac) (n : ℕ) → whole n ≼ q → n ≤ floor q
 unfolding floor whole
 floor-least q n h = le-div-iff-mul-le (q .pos) .1 (omega (arith, h .le))
 
-ordered : {m n : ℕ} → m ≤ n → whole m ≼ whole n
+pub ordered : {m n : ℕ} → m ≤ n → whole m ≼ whole n
 unfolding whole
 ordered h = record { le = omega arith }
 
@@ -51,16 +52,16 @@ strictly h = record { lt = omega arith }
 -- ---- the product with the table's power, against the exact one
 
 module _ (up : Bool) (x : Scaled) (k : ℕ) where
-  pub below : value x ⊗ whole (10 ^ k) ≼ value (times-power up x k) ⊗ ε ⊗ ε
+  pub product-below : value x ⊗ whole (10 ^ k) ≼ value (times-power up x k) ⊗ ε ⊗ ε
   unfolding times-power entry
-  below =
+  product-below =
       ≼-trans (mul-mono (≼-refl (value x)) (round-close up 31 (whole (10 ^ k)) .below))
       (≼-trans (≽-of (mul-assoc (value x) (value (entry up k)) ε))
       (mul-mono (round-close up 31 (value x ⊗ value (entry up k)) .below) (≼-refl ε)))
 
-  pub above : value (times-power up x k) ≼ value x ⊗ whole (10 ^ k) ⊗ ε ⊗ ε
+  pub product-above : value (times-power up x k) ≼ value x ⊗ whole (10 ^ k) ⊗ ε ⊗ ε
   unfolding times-power entry
-  above =
+  product-above =
       ≼-trans (round-close up 31 (value x ⊗ value (entry up k)) .above)
       (mul-mono (≼-trans (mul-mono (≼-refl (value x)) (round-close up 31 (whole (10 ^ k)) .above)) (≽-of (mul-assoc (value x) (whole (10 ^ k)) ε))) (≼-refl ε))
 
@@ -76,11 +77,11 @@ module _ (up : Bool) (x : Scaled) (k : ℕ) where
   -- where the exact product is small enough, 1,000 is not reached
   pub not-reached : value x ⊗ whole (10 ^ k) ⊗ ε ⊗ ε ≺ whole 1000 → reaches up x k ≡ false
   unfolding reaches
-  not-reached h = at-most-no (whole 1000) (value (times-power up x k)) (≼-≺ above h)
+  not-reached h = at-most-no (whole 1000) (value (times-power up x k)) (≼-≺ product-above h)
 
   -- the next power's exact product, where this one does not reach 1,000
   pub next : reaches up x k ≡ false → value x ⊗ whole (10 ^ suc k) ≼ whole 10 ⊗ (whole 1000 ⊗ ε ⊗ ε)
-  next h = ≼-trans (≼-of (ten (value x))) (mul-mono (≼-refl (whole 10)) (≼-trans below (mul-mono (mul-mono (unreached h) (≼-refl ε)) (≼-refl ε))))
+  next h = ≼-trans (≼-of (ten (value x))) (mul-mono (≼-refl (whole 10)) (≼-trans product-below (mul-mono (mul-mono (unreached h) (≼-refl ε)) (≼-refl ε))))
     where
       ten : (q : Frac) → q ⊗ whole (10 ^ suc k) ≈ whole 10 ⊗ (q ⊗ whole (10 ^ k))
       ten q = unfold _⊗_ whole in record { eq = rw (pow-succ' 10 k) (omega arith) }
@@ -94,6 +95,13 @@ module _ (up : Bool) (x : Scaled) where
   pub here : least-power up x < table-length → reaches up x (least-power up x) ≡ true
   unfolding least-power
   here l = least-here (reaches up x) table-length l
+
+-- a number below 2^-s, and a power that is too low for it; (2^31 + 1)² is 4,611,686,022,722,355,201
+pub too-low : (up : Bool) (x : Scaled) (s k : ℕ) → value x ⊗ whole (2 ^ s) ≺ whole 1 → 10 ^ k * 4611686022722355201 ≤ 1000 * 2 ^ s * 2 ^ 62 → reaches up x k ≡ false
+too-low up x s k h l = not-reached up x k (go (value x) h)
+  where
+    go : (q : Frac) → q ⊗ whole (2 ^ s) ≺ whole 1 → q ⊗ whole (10 ^ k) ⊗ ε ⊗ ε ≺ whole 1000
+    go q h = unfold _⊗_ whole slack _over_ in record { lt = omega (arith, h .lt, mul-le-mul-left (q .num) l) }
 
 lower-side : (x : Scaled) (k : ℕ) → value (times-power false x k) ≼ value x ⊗ whole (10 ^ k)
 unfolding times-power entry
@@ -155,9 +163,16 @@ module _ (up : Bool) (x : Scaled) (small : value x ≼ whole 1) where
       once : whole 1 ⊗ whole 1000 ≈ whole 1000
       once = unfold _⊗_ whole in record { eq = refl }
 
+  -- so the upper digits there are fewer than 10,000
+  pub three-few : (k : ℕ) → 3 ≤ k → 10000 ≤ suc (floor (value (times-power up x k))) → 4 ≤ k
+  three-few k l h = ⊎-elim (λ c. absurd (three (omega arith) h)) (λ c. c) (lt-or-le k 4)
+    where
+      three : k ≡ 3 → 10000 ≤ suc (floor (value (times-power up x k))) → ⊥
+      three e h = omega (arith, rw e at h, at-three)
+
 module _ (up : Bool) (x : Scaled) (k : ℕ) (low : reaches up x k ≡ false) where
   pub under : value (times-power up x (suc k)) ≺ whole 10001
-  under = ≼-≺ (≼-trans (above up x (suc k)) (mul-mono (mul-mono (next up x k low) (≼-refl ε)) (≼-refl ε))) top-twice
+  under = ≼-≺ (≼-trans (product-above up x (suc k)) (mul-mono (mul-mono (next up x k low) (≼-refl ε)) (≼-refl ε))) top-twice
 
   pub most : floor (value (times-power up x (suc k))) ≤ 10000
   most = floor-most (value (times-power up x (suc k))) 10000 under
@@ -231,12 +246,34 @@ module _ (q : Frac) (i t : ℕ) (l : i ≤ 1) where
   unfolding _⊗_ _⊕_ whole
   carry-two h = record { le = omega (arith, h .le, mul-le-mul-right (q .den) l) }
 
+-- the digits of a whole part, by cases
+pub digits-up : (up : Bool) (w : ℕ) → up ≡ true → w + 1 ≡ digits-of up w
+unfolding digits-of
+digits-up up w e = rw e (omega arith)
+
+pub digits-cut : (up : Bool) (w : ℕ) → up ≡ false → w ≡ 10000 → 9999 ≡ digits-of up w
+unfolding digits-of
+digits-cut up w e h = rw (e, eq-eqb w 10000 h)
+
+pub digits-same : (up : Bool) (w : ℕ) → up ≡ false → (w ≡ 10000 → ⊥) → w ≡ digits-of up w
+unfolding digits-of
+digits-same up w e h = rw (e, ne-eqb w 10000 h)
+
+-- they are one more at most
+digits-next : (up : Bool) (w : ℕ) → digits-of up w ≤ suc w
+digits-next true w = omega (arith, digits-up true w refl)
+digits-next false w = go (ℕ-discrete w 10000)
+  where
+    go : Dec (w ≡ 10000) → digits-of false w ≤ suc w
+    go (yes e) = omega (arith, e, digits-cut false w refl e)
+    go (no e) = omega (arith, digits-same false w refl e)
+
 -- the digits at a power, by cases
-at-power-few : (k n : ℕ) → n < 10000 → at-power k n ≡ record { digits = n; power = k - 3 }
+pub at-power-few : (k n : ℕ) → n < 10000 → at-power k n ≡ record { digits = n; power = k - 3 }
 unfolding at-power
 at-power-few k n l = rw (lt-ltb n 10000 l)
 
-at-power-carried : (k n : ℕ) → 10000 ≤ n → at-power k n ≡ record { digits = n - 9000; power = k - 4 }
+pub at-power-carried : (k n : ℕ) → 10000 ≤ n → at-power k n ≡ record { digits = n - 9000; power = k - 4 }
 unfolding at-power
 at-power-carried k n l = rw (le-ltb n 10000 l)
 
@@ -286,16 +323,16 @@ module _ (x : Scaled) (j : ℕ) (l : suc j < table-length) (low : 3 ≤ suc j) w
       go false e f =
           let m = most false x j u in
           lower-at x (suc j) w l low four (omega (arith, m, f refl)) not-above-w
-          (≼-trans (below false x (suc j))
+          (≼-trans (product-below false x (suc j))
           (≼-trans (mul-mono (mul-mono (≼-of-≺ (floor-above (value (times-power false x (suc j))))) (≼-refl ε)) (≼-refl ε)) (one-more w m)))
 
   upper-found : value x ≼ whole 1 → reaches true x j ≡ false → reaches true x (suc j) ≡ true → Printed true x (at-power (suc j) (digits-of true (floor (value (times-power true x (suc j))))))
   upper-found small u r =
       let m = most true x j u in
       unfold digits-of in
-      upper-at x (suc j) (suc w) l low (omega (arith, four)) (omega (arith, m)) high
+      upper-at x (suc j) (suc w) l low (omega (arith, four)) (omega (arith, m)) (three-few true x small (suc j) low)
       (≼-trans (upper-side x (suc j)) (≼-of-≺ (floor-above P)))
-      (off w (value x ⊗ whole (10 ^ suc j)) (≼-trans (next true x j u) top) (≼-trans (floor-below P) (above true x (suc j))))
+      (off w (value x ⊗ whole (10 ^ suc j)) (≼-trans (next true x j u) top) (≼-trans (floor-below P) (product-above true x (suc j))))
     where
       P : Frac
       P = value (times-power true x (suc j))
@@ -305,13 +342,6 @@ module _ (x : Scaled) (j : ℕ) (l : suc j < table-length) (low : 3 ≤ suc j) w
 
       four : 1000 ≤ w
       four = floor-least P 1000 (reached true x (suc j) r)
-
-      -- at 10^3 there are fewer than 10,000
-      high : 10000 ≤ suc w → 4 ≤ suc j
-      high h = ⊎-elim (λ c. absurd (three (omega arith) h)) (λ c. c) (lt-or-le (suc j) 4)
-        where
-          three : suc j ≡ 3 → 10000 ≤ suc w → ⊥
-          three e h = omega (arith, h, rw (← e) at (at-three true x small))
 
 -- ---- a number that the table has no power for
 
@@ -343,6 +373,21 @@ module _ (up : Bool) (x : Scaled) where
 module _ (up : Bool) (x : Scaled) (small : value x ≼ whole 1) where
   pub low-power : least-power up x < table-length → 3 ≤ least-power up x
   low-power l = ⊎-elim (λ c. absurd (true≢false (sym (here up x l) ∙ not-two up x small (least-power up x) (omega arith)))) (λ c. c) (lt-or-le (least-power up x) 3)
+
+  -- the whole part there, and how far its digits go
+  module _ (l : least-power up x < table-length) where
+    pub whole-most : floor (value (times-power up x (least-power up x))) ≤ 10000
+    whole-most = go (least-power up x) (low-power l) (before up x)
+      where
+        go : (k : ℕ) → 3 ≤ k → ((j : ℕ) → j < k → reaches up x j ≡ false) → floor (value (times-power up x k)) ≤ 10000
+        go zero l u = let f : ⊥ = omega arith in absurd f
+        go (suc j) l u = most up x j (u j (omega arith))
+
+    pub digits-most : digits-of up (floor (value (times-power up x (least-power up x)))) ≤ 10001
+    digits-most = omega (arith, whole-most, digits-next up (floor (value (times-power up x (least-power up x)))))
+
+    pub digits-high : 10000 ≤ digits-of up (floor (value (times-power up x (least-power up x)))) → 4 ≤ least-power up x
+    digits-high h = three-few up x small (least-power up x) (low-power l) (omega (arith, h, digits-next up (floor (value (times-power up x (least-power up x))))))
 
 -- ---- the promises, by cases
 
@@ -382,6 +427,14 @@ module _ (up : Bool) (x : Scaled) (b : below-1 x ≡ true) (none : table-length 
 
   no-power : reaches up x 46 ≡ false
   no-power = before up x 46 none
+
+pub small-lower : (up : Bool) (x : Scaled) → up ≡ false → nothing ≡ too-small up x
+unfolding too-small
+small-lower up x e = rw e
+
+pub small-upper : (up : Bool) (x : Scaled) → up ≡ true → 0 < x .m → record { digits = 1000; power = 43 } ≡ too-small up x
+unfolding too-small
+small-upper up x e p = rw (e, ne-eqb (x .m) 0 (λ z. omega (arith, z, p)))
 
 small-prints : (up : Bool) (x : Scaled) → below-1 x ≡ true → table-length ≤ least-power up x → Printed up x (too-small up x)
 unfolding too-small
@@ -427,5 +480,31 @@ found-from up x h = record { found = λ b. ⊎-elim (λ l. l) (λ g. absurd (las
         ≺-irrefl
         (≼-≺
         (≼-trans (mul-mono h (≼-refl (whole 1000)))
-        (≼-trans (≼-of (shift (value x) (10 ^ 43) 1000)) (≼-trans (below up x 46) (mul-mono (mul-mono (unreached up x 46 low) (≼-refl ε)) (≼-refl ε)))))
+        (≼-trans (≼-of (shift (value x) (10 ^ 43) 1000)) (≼-trans (product-below up x 46) (mul-mono (mul-mono (unreached up x 46 low) (≼-refl ε)) (≼-refl ε)))))
         less)
+
+-- ---- the value alone counts, not m and e
+
+module _ (up : Bool) (x y : Scaled) (h : value x ≈ value y) where
+  times-same : (k : ℕ) → times-power up x k ≡ times-power up y k
+  unfolding times-power
+  times-same k = round-cong up 32 (lit< tt) (mul-cong h (≈-refl (value (entry up k))))
+
+  power-same : least-power up x ≡ least-power up y
+  unfolding least-power reaches
+  power-same = λ i. least (λ k. at-most (whole 1000) (value (times-same k i))) table-length
+
+  below-same : below-1 x ≡ below-1 y
+  unfolding below-1 above
+  below-same = ap not (at-most-cong _ _ _ _ (≈-refl (whole 1)) h)
+
+  small-same : 0 < x .m → 0 < y .m → too-small up x ≡ too-small up y
+  small-same p q = go up
+    where
+      go : (up : Bool) → too-small up x ≡ too-small up y
+      go false = sym (small-lower false x refl) ∙ small-lower false y refl
+      go true = sym (small-upper true x refl p) ∙ small-upper true y refl q
+
+  pub decimal-same : 0 < x .m → 0 < y .m → decimal-of up x ≡ decimal-of up y
+  unfolding decimal-of
+  decimal-same p q = rw (below-same, power-same, times-same (least-power up y), small-same p q)

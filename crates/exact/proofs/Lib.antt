@@ -21,5 +21,6 @@ pub mod Powers
 pub mod Closeness
 pub mod Exponents
 pub mod Mirror
+pub mod Tables
 pub mod Least
 pub mod Decimals

@@ -17,7 +17,7 @@ use Rattle.exact.specs.Fraction.{Frac, _≈_, _⊕_, _⊗_, _÷_, _⊘_,
 use Rattle.exact.specs.Scaled.{scaled, nought, value, Normal, IsScaled}
 use Rattle.exact.specs.Private.Round.{round}
 use Rattle.exact.proofs.Integers.{bal-add, bal-diff}
-use Rattle.exact.proofs.Fractions.{add-comm}
+use Rattle.exact.proofs.Fractions.{≈-trans, add-comm}
 use Rattle.exact.proofs.Bits.{size-low}
 use Rattle.exact.proofs.Grid.{near-exact, near-quotient}
 use Rattle.exact.proofs.Rounding.{Packed, pack-round, zero-round, round-exact, round-cong}
@@ -157,14 +157,18 @@ module _ (b n : ℕ) (np : 0 < n) (nl : n < 2 ^ b) where
     high = rw (← e) (shl-lt (size n) t (size-lt n));
   }
 
-pub whole-same : (n t : ℕ) → value (scaled (n * 2 ^ t) (pos 0 -ℤ pos t)) ≈ whole n
-whole-same n t = record { eq = is }
+-- more zeros at the end of m, and e as much lower
+pub shift-same : (n t : ℕ) (e : ℤ) → value (scaled (n * 2 ^ t) (e -ℤ pos t)) ≈ value (scaled n e)
+shift-same n t e = record { eq = is }
   where
-    bal : 2 ^ posPart (pos 0 -ℤ pos t) * (2 ^ 0 * 2 ^ t) ≡ 2 ^ 0 * 2 ^ 0 * 2 ^ negPart (pos 0 -ℤ pos t)
-    bal = simp (pow-add 2) at (powers (bal-diff (pos 0) (pos t)))
+    bal : 2 ^ posPart (e -ℤ pos t) * (2 ^ negPart e * 2 ^ t) ≡ 2 ^ posPart e * 2 ^ 0 * 2 ^ negPart (e -ℤ pos t)
+    bal = simp (pow-add 2) at (powers (bal-diff e (pos t)))
 
-    is : value (scaled (n * 2 ^ t) (pos 0 -ℤ pos t)) .num * (whole n) .den ≡ (whole n) .num * value (scaled (n * 2 ^ t) (pos 0 -ℤ pos t)) .den
-    is = unfold value whole in omega (arith, ap (λ (z : ℕ). n * z) bal)
+    is : value (scaled (n * 2 ^ t) (e -ℤ pos t)) .num * value (scaled n e) .den ≡ value (scaled n e) .num * value (scaled (n * 2 ^ t) (e -ℤ pos t)) .den
+    is = unfold value in omega (arith, ap (λ (z : ℕ). n * z) bal)
+
+pub whole-same : (n t : ℕ) → value (scaled (n * 2 ^ t) (pos 0 -ℤ pos t)) ≈ whole n
+whole-same n t = ≈-trans (shift-same n t (pos 0)) (record { eq = unfold value whole in omega arith })
 
 pub whole-round : (up : Bool) (b n t : ℕ) → 0 < b → 0 < n → n < 2 ^ b → size n + t ≡ b → round up b (whole n) ≡ scaled (n * 2 ^ t) (pos 0 -ℤ pos t)
 whole-round up b n t bp np nl e = round-exact up b bp (inr (whole-normal b n np nl t e)) (whole-same n t)

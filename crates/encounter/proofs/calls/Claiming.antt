@@ -10,6 +10,7 @@ use Rattle.exact.proofs.Unrounded.{letters-are, term-is, sum-is, powers-are, bo
 use Rattle.encounter.specs.Claims.{Claims, Unrounded}
 use Rattle.encounter.proofs.calls.Stars.{stars-hold, mirror-begin, mirror-add, mirror-read}
 use Rattle.encounter.proofs.calls.Classes.{classes, no-reversal, never-falls, alert-remains}
+use Rattle.encounter.proofs.calls.PrintedEnds.{decimals}
 
 unrounded : (E : Encounter) → Unrounded E
 unfolding series exponential
@@ -37,4 +38,5 @@ claims = record {
   no-reversal = no-reversal;
   lower-end-never-falls = never-falls;
   alert-remains = alert-remains;
+  decimals = decimals;
 }

@@ -24,7 +24,7 @@ use Rattle.encounter.specs.declared.state.Class.the-variants.{Clear, Ale
 use Rattle.encounter.specs.Session.{state, falls-under, class-of, bracket}
 use Rattle.encounter.specs.Calls.{outcome, reads, call}
 use Rattle.encounter.specs.Claims.{Readable, OneEncounter, Classed}
-use Rattle.encounter.proofs.calls.Invariant.{Whole, nothing, at, by-history, number, whole}
+use Rattle.encounter.proofs.calls.AcceptedReads.{read-of}
 
 -- a fraction is clear just where it is no alert
 clear-is : (p : Frac) → clear p ≡ not (alert p)
@@ -102,25 +102,6 @@ module _ {E : Encounter} (h : Accepted E) (N : ℕ) (l : 1 ≤ N) (r : refuses-2
         quotient-alert = λ e N′ K n k. alert-up (enclosed h N l r N′ K n k .0) (unfold falls-under in rw e at own);
         quotient-clear = λ e N′ K n k. clear-down (enclosed h N l r N′ K n k .1) (unfold falls-under in rw e at own);
       }
-
--- what a read is that is accepted
-record ReadOf (s : Session) : Type 0 where
-  fine : Accepted (s .encounter)
-  low : 1 ≤ s .N
-  passes : refuses-23 (s .encounter) (s .N) ≡ false
-  is : call reads s .answer ≡ bracket (s .encounter) (s .N)
-
-of-history : {s : Session} {w : History} → Whole s w → refusal w read ≡ 0 → call reads s ≡ outcome w read s → ReadOf s
-of-history nothing z e = unfold refusal in absurd (let f : ⊥ = omega (arith, z) in f)
-of-history (at {E} {N} h l u) z e = unfold state in record {
-  fine = h;
-  low = l;
-  passes = passed 22 (refuses-23 E N) 0 (unfold refusal in z) .0;
-  is = ap (λ (r : Called). r .answer) e ∙ unfold outcome in rw z;
-}
-
-read-of : {s : Session} → Readable s → ReadOf s
-read-of r = let (w, h) = whole (r .reached) in of-history h (sym (number h read) ∙ rw (by-history h reads) at (r .accepted)) (by-history h reads)
 
 pub classes : {s : Session} → Readable s → Classed (s .encounter) (s .N) (call reads s .answer)
 classes {s} r = let f = read-of r in rw (f .is) (of-read (f .fine) (s .N) (f .low) (f .passes))

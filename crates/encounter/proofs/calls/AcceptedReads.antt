@@ -1,0 +1,32 @@
+-- A session from the calls on which a read is accepted: its encounter is accepted, and the answer is the bracket at its order.
+use mathlib.Core.Path.{_≡_, sym, _∙_, ap}
+use mathlib.Core.Bool.{false}
+use Prim.Native.Nat.{_≤_}
+use native.Mathlib.Omega.{arith}
+use Rattle.exact.specs.Records.{read}
+use Rattle.exact.specs.Refusals.{Accepted, History, refuses-23, refusal}
+use Rattle.exact.proofs.Accepted.{passed}
+use Rattle.encounter.specs.declared.state.Session.{Session}
+use Rattle.encounter.specs.declared.state.Called.{Called}
+use Rattle.encounter.specs.Session.{state, bracket}
+use Rattle.encounter.specs.Calls.{outcome, reads, call}
+use Rattle.encounter.specs.Claims.{Readable}
+use Rattle.encounter.proofs.calls.Invariant.{Whole, nothing, at, by-history, number, whole}
+
+pub record ReadOf (s : Session) : Type 0 where
+  pub fine : Accepted (s .encounter)
+  pub low : 1 ≤ s .N
+  pub passes : refuses-23 (s .encounter) (s .N) ≡ false
+  pub is : call reads s .answer ≡ bracket (s .encounter) (s .N)
+
+of-history : {s : Session} {w : History} → Whole s w → refusal w read ≡ 0 → call reads s ≡ outcome w read s → ReadOf s
+of-history nothing z e = unfold refusal in absurd (let f : ⊥ = omega (arith, z) in f)
+of-history (at {E} {N} h l u) z e = unfold state in record {
+  fine = h;
+  low = l;
+  passes = passed 22 (refuses-23 E N) 0 (unfold refusal in z) .0;
+  is = ap (λ (r : Called). r .answer) e ∙ unfold outcome in rw z;
+}
+
+pub read-of : {s : Session} → Readable s → ReadOf s
+read-of r = let (w, h) = whole (r .reached) in of-history h (sym (number h read) ∙ rw (by-history h reads) at (r .accepted)) (by-history h reads)
