@@ -9,20 +9,20 @@ use lib.Dec.{ltb}
 use borrow.Author.Tests.{lt-ltb, le-ltb, ltb-true, ltb-false}
 use lib.ListN.{length, length-append}
 use Rattle.io.specs.Digits.{digits, glyph, Fewest}
-use Rattle.listing.specs.Line.{decimal, decimal-of}
+use Rattle.listing.specs.Line.{decimal, decimal-digits}
 
 last : (x : ℕ) → glyph (x % 10) ≡ 48 + x % 10
 last x = rw (lt-ltb (x % 10) 10 (omega arith))
 
-one : (f x : ℕ) → x < 10 → decimal-of (suc f) x ≡ (48 + x % 10) ∷ []
-unfolding decimal-of
+one : (f x : ℕ) → x < 10 → decimal-digits (suc f) x ≡ (48 + x % 10) ∷ []
+unfolding decimal-digits
 one f x h = rw (lt-ltb x 10 h)
 
-more : (f x : ℕ) → 10 ≤ x → decimal-of (suc f) x ≡ decimal-of f (x / 10) ++ ((48 + x % 10) ∷ [])
-unfolding decimal-of
+more : (f x : ℕ) → 10 ≤ x → decimal-digits (suc f) x ≡ decimal-digits f (x / 10) ++ ((48 + x % 10) ∷ [])
+unfolding decimal-digits
 more f x h = rw (le-ltb x 10 h)
 
-digits-are : (f k x : ℕ) → x < f → x < 10 ^ suc k → (0 < k → 10 ^ k ≤ x) → digits 10 (suc k) x ≡ decimal-of f x
+digits-are : (f k x : ℕ) → x < f → x < 10 ^ suc k → (0 < k → 10 ^ k ≤ x) → digits 10 (suc k) x ≡ decimal-digits f x
 digits-are zero k x h u g = absurd (omega arith)
 digits-are (suc f) zero x h u g = rw (one f x (omega arith), last x)
 digits-are (suc f) (suc k) x h u g =
@@ -43,23 +43,23 @@ digits-decimal x (suc k) f =
 -- one digit more
 longer :
     (f n x : ℕ) →
-    ((m : ℕ) → x / 10 < 10 ^ m → 0 < m → length (decimal-of f (x / 10)) ≤ m) →
+    ((m : ℕ) → x / 10 < 10 ^ m → 0 < m → length (decimal-digits f (x / 10)) ≤ m) →
     x < 10 ^ suc n →
     10 ≤ x →
-    length (decimal-of f (x / 10)) + 1 ≤ suc n
+    length (decimal-digits f (x / 10)) + 1 ≤ suc n
 longer f zero x g h low = absurd (omega arith)
 longer f (suc n) x g h low =
     let q : 10 ^ suc (suc n) ≡ 10 ^ suc n * 10 = pow-suc 10 (suc n) in
-    let again : length (decimal-of f (x / 10)) ≤ suc n = g (suc n) (omega arith) (omega arith) in
+    let again : length (decimal-digits f (x / 10)) ≤ suc n = g (suc n) (omega arith) (omega arith) in
     omega arith
 
 -- a number below 10^n has at most n digits
-short : (f n x : ℕ) → x < 10 ^ n → 0 < n → length (decimal-of f x) ≤ n
-short zero n x h p = unfold decimal-of in (omega arith)
+short : (f n x : ℕ) → x < 10 ^ n → 0 < n → length (decimal-digits f x) ≤ n
+short zero n x h p = unfold decimal-digits in (omega arith)
 short (suc f) zero x h p = absurd (omega arith)
 short (suc f) (suc n) x h p = by (λ m. short f m (x / 10)) (ltb x 10) refl
   where
-    by : ((m : ℕ) → x / 10 < 10 ^ m → 0 < m → length (decimal-of f (x / 10)) ≤ m) → (b : Bool) → ltb x 10 ≡ b → length (decimal-of (suc f) x) ≤ suc n
+    by : ((m : ℕ) → x / 10 < 10 ^ m → 0 < m → length (decimal-digits f (x / 10)) ≤ m) → (b : Bool) → ltb x 10 ≡ b → length (decimal-digits (suc f) x) ≤ suc n
     by g true e = rw (one f x (ltb-true x 10 e)) (omega arith)
     by g false e = let low : 10 ≤ x = ltb-false x 10 e in rw (more f x low, length-append) (longer f n x g h low)
 

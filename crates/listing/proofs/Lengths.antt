@@ -12,6 +12,7 @@ use denote.Laws.{Is}
 use denote.Struct.Declared.{row}
 use denote.Struct.Laws as laws
 use Rattle.exact.specs.declared.Scaled.{Scaled}
+use Rattle.exact.specs.Decimals.{decimal-of}
 use Rattle.exact.proofs.Scaled as S
 use Rattle.exact.proofs.Scaled.Laws as S′
 use Rattle.encounter.specs.declared.state.Class.{Class}
@@ -19,8 +20,9 @@ use Rattle.encounter.specs.declared.state.Class.the-variants.{Clear, Alert, Ope
 use Rattle.encounter.specs.declared.state.Answer.{Answer}
 use Rattle.encounter.proofs.state.Answer as A
 use Rattle.encounter.proofs.state.Answer.Laws as A′
-use Rattle.listing.specs.Line.{ascii, decimal, integer, scaled-text, class-text, ends-and-class, read-text, taken-text, outcome-text, line, room}
+use Rattle.listing.specs.Line.{ascii, decimal, integer, scaled-text, class-text, ends-and-class, ends-in-decimal, read-text, taken-text, outcome-text, line, room}
 use Rattle.listing.proofs.Decimals.{decimal-10, decimal-20}
+use Rattle.listing.proofs.EndsInDecimal.{text-length}
 
 -- ---- what the types of the numbers say
 
@@ -64,7 +66,7 @@ module _ (offset kind : ℕ) (a : Answer) (o : offset < 2 ^ 64) (r : AnswerRange
   Short t = length (decimal offset ++ ascii " " ++ t ++ ascii "\n") ≤ room
 
   short-read : Short (read-text a)
-  unfolding read-text ends-and-class scaled-text
+  unfolding read-text ends-and-class scaled-text ends-in-decimal
   short-read = simp length-append (omega (
     arith,
     decimal-20 offset o,
@@ -74,6 +76,8 @@ module _ (offset kind : ℕ) (a : Answer) (o : offset < 2 ^ 64) (r : AnswerRange
     decimal-10 (a .upper .m) (r .upper .m),
     integer-11 (a .upper .e) (r .upper .e),
     class-5 (a .class),
+    text-length (decimal-of false (a .lower)),
+    text-length (decimal-of true (a .upper)),
   ))
 
   -- the sum of the longest parts is at most the room

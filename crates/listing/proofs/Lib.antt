@@ -1,4 +1,5 @@
 pub mod Decimals
+pub mod EndsInDecimal
 pub mod Lengths
 pub mod Putting
 pub mod Signs

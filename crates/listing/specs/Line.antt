@@ -2,11 +2,13 @@
 use Prim.Native.Nat.{ℕ, zero, suc, _+_, _/_, _%_}
 use Prim.Native.Char.{code}
 use Prim.Native.String.{String, [] as none, _∷_ as _then_}
-use mathlib.Core.Bool.{cond}
+use mathlib.Core.Bool.{true, false, cond}
 use mathlib.Core.List.{List, [], _∷_, _++_}
 use lib.Dec.{ltb, eqb}
 use lib.IntN.{ℤ, pos, negsuc}
 use Rattle.exact.specs.declared.Scaled.{Scaled}
+use Rattle.exact.specs.declared.Decimal.{Decimal}
+use Rattle.exact.specs.Decimals.{decimal-of}
 use Rattle.encounter.specs.declared.state.Class.{Class}
 use Rattle.encounter.specs.declared.state.Class.the-variants.{Clear, Alert, Open}
 use Rattle.encounter.specs.declared.state.Answer.{Answer}
@@ -16,14 +18,18 @@ abbrev pub ascii : String → List ℕ
 ascii none = []
 ascii (c then s) = code c ∷ ascii s
 
+-- the last decimal digit of n
+abbrev pub last-digit : ℕ → ℕ
+last-digit n = 48 + n % 10
+
 -- "All numbers are decimal without leading zeros": where n is below 10, its digit; otherwise the digits of n / 10 and then that of n % 10. k is to be
 -- at least the number of digits, which n + 1 is
-unfoldable pub decimal-of : ℕ → ℕ → List ℕ
-decimal-of zero n = []
-decimal-of (suc k) n = cond (ltb n 10) [] (decimal-of k (n / 10)) ++ ((48 + n % 10) ∷ [])
+unfoldable pub decimal-digits : ℕ → ℕ → List ℕ
+decimal-digits zero n = []
+decimal-digits (suc k) n = cond (ltb n 10) [] (decimal-digits k (n / 10)) ++ (last-digit n ∷ [])
 
 unfoldable pub decimal : ℕ → List ℕ
-decimal n = decimal-of (suc n) n
+decimal n = decimal-digits (suc n) n
 
 -- "a negative e has a minus sign before it"
 unfoldable pub integer : ℤ → List ℕ
@@ -44,9 +50,19 @@ class-text Open = ascii "open"
 unfoldable pub ends-and-class : Answer → List ℕ
 ends-and-class a = scaled-text (a .lower) ++ ascii " " ++ scaled-text (a .upper) ++ ascii " " ++ class-text (a .class)
 
--- "`read N ml el mh eh class`"
+-- request #103: "d.ddd, then `e-` and k − 3 in two decimal digits"
+unfoldable pub decimal-text : Decimal → List ℕ
+decimal-text d =
+    (last-digit (d .digits / 1000) ∷ ascii ".") ++ (last-digit (d .digits / 100) ∷ last-digit (d .digits / 10) ∷ last-digit (d .digits) ∷ ascii "e-") ++
+    (last-digit (d .power / 10) ∷ last-digit (d .power) ∷ [])
+
+-- request #103: "each end as four significant digits and a power of ten", the lower end and then the upper
+unfoldable pub ends-in-decimal : Answer → List ℕ
+ends-in-decimal a = decimal-text (decimal-of false (a .lower)) ++ ascii " " ++ decimal-text (decimal-of true (a .upper))
+
+-- "`read N ml el mh eh class`", and "at the line's end" what request #103 adds
 unfoldable pub read-text : Answer → List ℕ
-read-text a = ascii "read " ++ decimal (a .N) ++ ascii " " ++ ends-and-class a
+read-text a = ascii "read " ++ decimal (a .N) ++ ascii " " ++ ends-and-class a ++ ascii " " ++ ends-in-decimal a
 
 -- "`begun 1`, `added N` (the order after the add), [..] or `read N ml el mh eh class`": by the kind byte, 1 of a begin, 2 of an add and any other of a
 -- read
@@ -63,4 +79,4 @@ line offset kind a = decimal offset ++ ascii " " ++ outcome-text kind a ++ ascii
 
 -- the bytes that put_line asks for, from the line's first index on, whatever the line; no line has more
 abbrev pub room : ℕ
-room = 100
+room = 150

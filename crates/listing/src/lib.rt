@@ -2,17 +2,19 @@
 ghost use mathlib.Core.Path.{_≡_};
 ghost use mathlib.Core.List.{_++_};
 ghost use lib.IntN.{natAbs};
-ghost use Rattle.listing.specs.Line.{decimal, integer, scaled-text, class-text, ends-and-class, read-text, outcome-text, line};
+ghost use Rattle.exact.specs.Decimals.{decimal-of};
+ghost use Rattle.listing.specs.Line.{decimal, integer, scaled-text, class-text, ends-and-class, last-digit, decimal-text, ends-in-decimal, read-text, outcome-text, line};
 ghost use Rattle.listing.specs.Put.{RoomFor, Put, PutLine};
 
 pub mod script;
 
+use encounter::decimals::to_decimal;
 use encounter::state::Answer;
 use encounter::state::Class;
 use exact::Scaled;
 
 // The bytes that a line is given: no line has more.
-pub const ROOM: usize = 100;
+pub const ROOM: usize = 150;
 
 // The bytes of text, from index at on. Answers the index past them, as each function here does.
 fn put(out: &mut [u8], at: usize, text: &[u8]) -> usize
@@ -114,6 +116,47 @@ fn put_ends_and_class(out: &mut [u8], at: usize, a: Answer) -> usize
     put_class(out, n, class)
 }
 
+// The last decimal digit of n.
+fn last_digit(n: u32) -> u8
+    ensures { λ r. ⌜ r ≡ last-digit n ⌝ }
+{
+    48 + (n % 10) as u8
+}
+
+// x in decimal, as a lower end or, where up is true, as an upper one.
+fn put_decimal(out: &mut [u8], at: usize, up: bool, x: Scaled) -> usize
+    requires { ⌜ RoomFor (now out) at (decimal-text (decimal-of up x)) ⌝ }
+    ensures { λ r. ⌜ Put (now (out .entry)) (now (out .exit)) at (decimal-text (decimal-of up x)) r ⌝ }
+{
+    let d = to_decimal(up, x);
+    let n = d.digits;
+    let p = d.power;
+    let text = [
+        last_digit(n / 1000),
+        b'.',
+        last_digit(n / 100),
+        last_digit(n / 10),
+        last_digit(n),
+        b'e',
+        b'-',
+        last_digit(p / 10),
+        last_digit(p),
+    ];
+    put(out, at, &text)
+}
+
+// Both ends in decimal.
+fn put_ends_in_decimal(out: &mut [u8], at: usize, a: Answer) -> usize
+    requires { ⌜ RoomFor (now out) at (ends-in-decimal a) ⌝ }
+    ensures { λ r. ⌜ Put (now (out .entry)) (now (out .exit)) at (ends-in-decimal a) r ⌝ }
+{
+    let lower = a.lower;
+    let upper = a.upper;
+    let k = put_decimal(out, at, false, lower);
+    let l = put(out, k, b" ");
+    put_decimal(out, l, true, upper)
+}
+
 // What a read answered.
 fn put_read(out: &mut [u8], at: usize, a: Answer) -> usize
     requires { ⌜ RoomFor (now out) at (read-text a) ⌝ }
@@ -121,7 +164,9 @@ fn put_read(out: &mut [u8], at: usize, a: Answer) -> usize
 {
     let k = put_and_word(out, at, b"read ", a.N);
     let l = put(out, k, b" ");
-    put_ends_and_class(out, l, a)
+    let m = put_ends_and_class(out, l, a);
+    let n = put(out, m, b" ");
+    put_ends_in_decimal(out, n, a)
 }
 
 // What a record was answered, by its kind byte.

@@ -23,16 +23,29 @@ put-ends-and-class-requires : tie.Need-put-ends-and-class-requires
 unfolding read-text
 put-ends-and-class-requires c κs = omega (arith, parts)
 
+slice-aggregate-put-2 : tie.Need-slice-aggregate-put-2
+slice-aggregate-put-2 c = search needs
+
+put-requires-2 : tie.Need-put-requires-2
+unfolding read-text
+put-requires-2 c κs = omega (arith, parts)
+
+put-ends-in-decimal-requires : tie.Need-put-ends-in-decimal-requires
+unfolding read-text
+put-ends-in-decimal-requires c κs = omega (arith, parts)
+
 same-length : tie.Need-same-length
 same-length c = search needs
 
 returns : tie.Need-returns
 unfolding read-text
 returns c =
-    let e = c .before .before in
+    let d = c .before .before in
+    let t = d .before .before .before .before in
+    let e = t .before .before .before .before .before in
     let s = e .before .before .before .before in
     let n = s .before .before .before .before .before in
-    joined (joined (n .put-and-word .ensures) (s .put .ensures)) (e .put-ends-and-class .ensures)
+    joined (joined (joined (joined (n .put-and-word .ensures) (s .put .ensures)) (e .put-ends-and-class .ensures)) (t .put2 .ensures)) (d .put-ends-in-decimal .ensures)
 
 pub put-read-spec : {M : Type 1} → statement M
 put-read-spec =
@@ -43,5 +56,8 @@ put-read-spec =
     slice-aggregate-put
     put-requires
     put-ends-and-class-requires
+    slice-aggregate-put-2
+    put-requires-2
+    put-ends-in-decimal-requires
     same-length
     returns)
