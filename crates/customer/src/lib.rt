@@ -6,9 +6,11 @@ ghost use Rattle.encounter.specs.Calls.{begins, adds, reads, call, Reached};
 ghost use Rattle.jinthuol.specs.Answer.{numbered, called};
 use encounter::calls;
 use encounter::calls::records::take_record;
+use encounter::decimals::to_decimal;
 use encounter::state::Answer;
 use encounter::state::Called;
 use encounter::state::Session;
+use exact::Decimal;
 use exact::Encounter;
 use exact::Scaled;
 use jinthuol::Listing;
@@ -17,6 +19,7 @@ use jinthuol::jinthuol_begin;
 use jinthuol::jinthuol_empty;
 use jinthuol::jinthuol_read;
 use jinthuol::jinthuol_run;
+use jinthuol::jinthuol_to_decimal;
 use jinthuol::jinthuol_version;
 use listing::put_line;
 use listing::script::Piece;
@@ -107,6 +110,14 @@ fn the_version() -> u32 {
 
 fn any_number(n: u32) -> Scaled {
     Scaled::whole(n)
+}
+
+fn in_decimal(up: bool, x: Scaled) -> Decimal {
+    to_decimal(up, x)
+}
+
+fn in_decimal_exported(up: bool, x: Scaled) -> Decimal {
+    jinthuol_to_decimal(up, x)
 }
 
 fn any_line(out: &mut [u8], at: usize, offset: usize, kind: u8, a: Answer) -> usize {

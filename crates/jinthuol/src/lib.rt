@@ -1,14 +1,17 @@
 // The library for programs in other languages: the calls of crate encounter and the listing of a script, under names of C.
 ghost use mathlib.Core.Path.{_≡_};
+ghost use Rattle.exact.specs.Decimals.{decimal-of, Printed};
 ghost use Rattle.encounter.specs.Session.{empty as empty-session};
 ghost use Rattle.encounter.specs.Calls.{begins, adds, reads, call, Reached};
 ghost use Rattle.jinthuol.specs.Answer.{class-number, numbered, called};
 ghost use Rattle.jinthuol.specs.Run.{RunOf};
 ghost use Rattle.jinthuol.specs.Version.{version};
 use encounter::calls;
+use encounter::decimals::to_decimal;
 use encounter::state;
 use encounter::state::Class;
 use encounter::state::Session;
+use exact::Decimal;
 use exact::Encounter;
 use exact::LARGEST_SCRIPT;
 use exact::Scaled;
@@ -16,7 +19,7 @@ use listing::script::put_lines;
 use listing::script::put_too_long;
 
 // The version of the functions below and their structs; bindings/c/jinthuol.h has the same number.
-pub const VERSION: u32 = 2;
+pub const VERSION: u32 = 3;
 
 // An answer, with its class as a number.
 #[repr(C)]
@@ -132,6 +135,14 @@ pub extern "C" fn jinthuol_read(session: Session) -> Answer
     ensures { λ r. ⌜ r ≡ numbered (call reads session .answer) ⌝ }
 {
     answer_of(calls::read(session))
+}
+
+// A number in decimal, as a lower end or, where up is true, as an upper one.
+#[no_mangle]
+pub extern "C" fn jinthuol_to_decimal(up: bool, number: Scaled) -> Decimal
+    ensures { λ r. ⌜ (r ≡ decimal-of up number) × Printed up number r ⌝ }
+{
+    to_decimal(up, number)
 }
 
 // The listing of a script, as far as the buffer has room for it.
