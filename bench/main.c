@@ -7,6 +7,7 @@
    Exits with 1 where an answer differs from the proved library's. */
 #define _POSIX_C_SOURCE 200809L
 #include "contender.h"
+#include "decimals.h"
 #include <inttypes.h>
 #include <stdio.h>
 #include <stdlib.h>
@@ -196,6 +197,60 @@ static void draw_screening(struct measured *list)
     }
 }
 
+/* Whether the decimals of both versions are the same: the ends of the cases, then drawn numbers of every e with a decimal of its own, and beyond. */
+static int compare_decimals(void)
+{
+    for (int i = 0; i < 1000000; i++) {
+        jinthuol_scaled x = {0x80000000u + drawn(0x80000000u), (int32_t)drawn(300) - 290};
+        if (i < 2 * CASE_COUNT) {
+            struct answer a = ends(CONTENDERS[PROVED], &CASES[i / 2]);
+            x = i % 2 ? (jinthuol_scaled){a.mh, a.eh} : (jinthuol_scaled){a.ml, a.el};
+        }
+        for (int up = 0; up < 2; up++) {
+            jinthuol_decimal found = same_decimal(up, x), due = jinthuol_to_decimal(up, x);
+            if (found.digits != due.digits || found.power != due.power) {
+                printf("decimals of %" PRIu32 " %" PRId32 " differ\n", x.m, x.e);
+                return 0;
+            }
+        }
+    }
+    return 1;
+}
+
+/* Nanoseconds of both decimals of an answer. */
+static double time_decimals(jinthuol_decimal (*decimal)(bool, jinthuol_scaled), const struct answer *a)
+{
+    jinthuol_scaled lower = {a->ml, a->el}, upper = {a->mh, a->eh};
+    double spent = 0, calls = 0;
+    while (spent < LEAST) {
+        double start = now();
+        for (int i = 0; i < 1024; i++) {
+            sink = decimal(false, lower).digits;
+            sink = decimal(true, upper).digits;
+        }
+        spent += now() - start;
+        calls += 1024;
+    }
+    return spent / calls;
+}
+
+/* Both decimals of the read of each case, and how many times the read they cost. */
+static void print_decimals(void)
+{
+    static double found[3][ROUNDS];
+    printf("\nBoth decimals of a read, proved and in C with the table in memory\n  %-8s %9s %9s  /same  /read\n", "", "proved", "same");
+    for (int i = 0; i < CASE_COUNT; i++) {
+        struct answer a = ends(CONTENDERS[PROVED], &CASES[i]);
+        for (int round = 0; round < ROUNDS; round++) {
+            found[0][round] = time_decimals(jinthuol_to_decimal, &a);
+            found[1][round] = time_decimals(same_decimal, &a);
+            found[2][round] = CONTENDERS[PROVED]->time_read(&CASES[i], LEAST);
+        }
+        printf("  %-8s %9.1f %9.1f  %5.2f  %5.2f\n", CASES[i].name, median(found[0]), median(found[1]), ratio(found[0], found[1]),
+               ratio(found[0], found[2]));
+    }
+}
+
 /* The processor's model, as the system names it. */
 static void print_processor(void)
 {
@@ -223,10 +278,13 @@ static int table(void)
     for (int i = 0; i < SCREENED; i++)
         if (!compare(&list[i]))
             return 1;
+    fill_powers();
+    if (!compare_decimals())
+        return 1;
     print_processor();
     printf("Nanoseconds and ratios, medians of %d rounds. A term is both sides and the tail term.\n", ROUNDS);
     printf("/same, /plain, /doubles: proved over it. mpfr/: MPFR over proved.\n");
-    printf("The ends, N and class of all contenders are equal.\n");
+    printf("The ends, N and class of all contenders are equal, and the decimals.\n");
     measure(list);
     for (int i = 0; i < CASE_COUNT; i++) {
         jinthuol_encounter E = CASES[i].E;
@@ -236,6 +294,7 @@ static int table(void)
     }
     printf("\nScreening: %d encounters, N from 81 to 120, each begun once and added once in a round\n", SCREENED);
     print_times(times[CASE_COUNT], READ);
+    print_decimals();
     return 0;
 }
 

@@ -65,6 +65,8 @@ def cases(rng):
             yield *encounter, N
     for encounter, *_ in AT_THRESHOLD:
         yield *encounter, 1
+    for encounter, N, _ in edges.AT_DECIMAL_EDGES:
+        yield *encounter, N
     for encounter in encounters.at_limits():
         yield *encounter, rng.choice((2, 5))
     for _ in range(60):
@@ -102,7 +104,9 @@ def line(call, answer):
         return f"refused {answer.refusal}: {REFUSALS[answer.refusal].replace('−', '-')}"
     words = [WORDS[call], answer.N]
     if call == "read":
-        words += [*answer.lower, *answer.upper, answer.class_name, as_double(*answer.lower), as_double(*answer.upper)]
+        words += [*answer.lower, *answer.upper, answer.class_name]
+        words += [records.decimal_text(False, answer.lower), records.decimal_text(True, answer.upper)]
+        words += [as_double(*answer.lower), as_double(*answer.upper)]
     return " ".join(map(str, words))
 
 
@@ -230,7 +234,7 @@ def of_rust():
     return passed, BUILT / "rust/release/examples/screen"
 
 
-FUNCTIONS = ("empty", "begin", "add", "read", "run")
+FUNCTIONS = ("empty", "begin", "add", "read", "to_decimal", "run")
 
 
 def of_another_version():
@@ -242,7 +246,8 @@ def of_another_version():
     output(["gcc", "-c", folder / "own.c", "-o", folder / "own.o"])
     output(["ar", "rc", folder / "libjinthuol.a", folder / "own.o"])
     environment = {**os.environ, "JINTHUOL_LIB_DIR": str(folder), "CARGO_TARGET_DIR": str(folder / "rust")}
-    for command in ["run", "--example", "screen", EXAMPLES[0]], ["test", "--test", "calls", "brackets"]:
+    tests = [["test", "--test", "calls", name] for name in ("brackets", "decimals")]
+    for command in ["run", "--example", "screen", EXAMPLES[0]], *tests:
         command = ["cargo", command[0], "--offline", "--locked", *map(str, command[1:])]
         ended = subprocess.run(command, cwd=BINDINGS / "rust", env=environment, capture_output=True, timeout=LONGEST_RUN)
         said = (ended.stdout + ended.stderr).decode()

@@ -5,7 +5,7 @@
 
 `rt staticlib jinthuol` has written the library to target/staticlib. Importing is tried where the library is missing, of
 another version or no library, without gcc, twice, from other folders and where the shared object cannot be written.
-Floats and fractions are compared with exact ones. Exits with 1 where anything differs.
+Floats and fractions are compared with exact ones, decimals with decimals.py. Exits with 1 where anything differs.
 """
 
 import importlib
@@ -21,6 +21,8 @@ import tempfile
 from fractions import Fraction
 
 sys.dont_write_bytecode = True
+import decimals
+import ends
 import options
 import scaled
 from checks import Checks
@@ -177,6 +179,16 @@ def of_floats(module, rng):
         checks.check((x.float_down(), x.float_up()) == due, "floats", f"2^31 × 2^{e}")
 
 
+def of_decimals(module, rng):
+    """A scaled number in decimal, in both directions."""
+    for m, e in ends.numbers(rng):
+        x = module.Scaled(m, e)
+        for up, found in (False, x.decimal_down()), (True, x.decimal_up()):
+            due = decimals.decimal(up, (m, e))
+            ok = (found.digits, found.power, str(found)) == (*due, decimals.text(due))
+            checks.check(ok and found.fraction == decimals.value(due), "decimals", f"{m} {e}: {found!r}, due: {due}")
+
+
 def is_next(x, exact, up):
     """Whether x is the float on this side of the fraction with none between."""
     sign, away = (1, -math.inf) if up else (-1, math.inf)
@@ -193,18 +205,18 @@ def of_answers(module):
         (session.begin(module.Encounter(*wrong)), "refused 3: R is 0 or above 10,000,000"),
         (session.begin(module.Encounter(*test_1)), "N = 1"),
         (session.add(54), "N = 55"),
-        (session.read(), "N = 55: 2627622691 × 2^-35 to 2627623074 × 2^-35, alert"),
+        (session.read(), "N = 55: 2627622691 × 2^-35 to 2627623074 × 2^-35, alert, 7.647e-02 to 7.648e-02"),
     ):
         checks.check(str(answer) == due, "answers", f"printed: {answer}, due: {due}")
     for (inputs, _, _, name), number in zip(AT_THRESHOLD, (2, 1, 0, 2), strict=True):
         other = module.Session.empty()
         other.begin(module.Encounter(*inputs))
         answer = other.read()
-        named = answer.class_, answer.class_name, str(answer).split()[-1]
+        named = answer.class_, answer.class_name, str(answer).split(", ")[1]
         checks.check(named == (number, name, name), "answers", f"class of {inputs}: {named}")
     answer = session.read()
-    ends = "lower=Scaled(m=2627622691, e=-35), upper=Scaled(m=2627623074, e=-35)"
-    checks.check(repr(answer) == f"Answer(refusal=0, N=55, {ends}, class_=1)", "answers", f"repr: {answer!r}")
+    both = "lower=Scaled(m=2627622691, e=-35), upper=Scaled(m=2627623074, e=-35)"
+    checks.check(repr(answer) == f"Answer(refusal=0, N=55, {both}, class_=1)", "answers", f"repr: {answer!r}")
     checks.check(answer == session.read() and answer != session.add(0), "answers", "equal answers")
     floats = answer.lower.m * 2.0**-35, answer.upper.m * 2.0**-35
     checks.check(answer.floats == floats, "answers", f"floats: {answer.floats}")
@@ -215,9 +227,9 @@ def of_answers(module):
     checks.check(str(module.Scaled(0, 0)) == "0", "answers", "zero")
     kept = module.Session.empty().kept, module.Session.empty().kept
     checks.check(kept[0] == kept[1] and kept[0] != session.kept, "answers", "equal sessions")
-    # An answer without ends has no class and no floats.
+    # An answer without ends has no class, no floats and no decimals.
     for answer in session.add(0), module.Session.empty().read():
-        for property_ in "class_name", "floats":
+        for property_ in "class_name", "floats", "decimals":
             try:
                 checks.check(False, "answers", f"{property_} of {answer!r}: {getattr(answer, property_)}")
             except ValueError as error:
@@ -245,6 +257,7 @@ def main():
     sys.path.insert(0, str(MODULE.parent))
     module = importlib.import_module("jinthuol")
     of_floats(module, random.Random(arguments.seed))
+    of_decimals(module, random.Random(arguments.seed))
     of_answers(module)
     checks.end()
 

@@ -52,6 +52,13 @@ static const char *class_name(uint32_t class_)
     }
 }
 
+/* An end in decimal, as a listing has it. */
+static void print_decimal(bool up, jinthuol_scaled end)
+{
+    jinthuol_decimal d = jinthuol_to_decimal(up, end);
+    printf(" %" PRIu32 ".%03" PRIu32 "e-%02" PRIu32, d.digits / 1000, d.digits % 1000, d.power);
+}
+
 /* An end as a double: exact wherever e fits, since m has 32 bits and a double 53. Its 17 digits, rounded to the nearest, tell it from every other. */
 static void print_double(jinthuol_scaled end)
 {
@@ -85,6 +92,8 @@ static void print_read(jinthuol_answer a)
     }
     printf("read %" PRIu32 " %" PRIu32 " %" PRId32 " %" PRIu32 " %" PRId32, a.N, a.lower.m, a.lower.e, a.upper.m, a.upper.e);
     printf(" %s", class_name(a.class_));
+    print_decimal(false, a.lower);
+    print_decimal(true, a.upper);
     print_double(a.lower);
     print_double(a.upper);
     printf("\n");

@@ -5,6 +5,8 @@
  *     jinthuol_begin(&session, test_1);                         N is 1
  *     jinthuol_add(&session, 54);                               N is 55
  *     jinthuol_answer answer = jinthuol_read(session);          both ends, and the class
+ *     jinthuol_to_decimal(false, answer.lower)                  7647 and 2: at least 7.647e-02
+ *     jinthuol_to_decimal(true, answer.upper)                   7648 and 2: at most 7.648e-02
  *
  * The functions are those of libjinthuol.a; `rt staticlib jinthuol` writes it to target/staticlib. example.c beside this file prints their answers.
  * README.md has the inputs in plain words, docs/TRUST.md what is proved of the functions and what is not.
@@ -46,7 +48,7 @@ extern "C" {
 #endif
 
 /* One more with each change of a struct or a function of this header, or of what a function answers. */
-#define JINTHUOL_VERSION 2
+#define JINTHUOL_VERSION 3
 
 /* The five inputs, in whole centimetres: combined radius R, larger standard deviation sx, smaller sy, mean miss xm and ym, along the principal axes of
  * the covariance in the encounter plane. */
@@ -60,6 +62,13 @@ typedef struct {
     uint32_t m;
     int32_t e;
 } jinthuol_scaled;
+
+/* d.ddd x 10^-power, where digits is dddd: four significant digits, 1000 to 9999, or 0 (jinthuol_to_decimal says where). power is from 0 to 43. In print
+ * "%u.%03ue-%02u" of digits / 1000, digits % 1000 and power, as a listing has it. */
+typedef struct {
+    uint32_t digits;
+    uint32_t power;
+} jinthuol_decimal;
 
 /* All that is kept of one encounter between calls. Only the functions below write it: each asks that its session came from jinthuol_empty and
  * then from these calls alone, and that nobody else writes it during the call. It is plain data: a copy of it is a session too. */
@@ -103,9 +112,15 @@ jinthuol_answer jinthuol_add(jinthuol_session *session, uint16_t count);
  * read it may be far off, and above 1; README.md has how many terms are enough. Where the probability is next to 1, rounding may leave it above 1. */
 jinthuol_answer jinthuol_read(jinthuol_session session);
 
+/* A number in decimal: as a lower end, or where up is true as an upper one. Take false for `lower` and true for `upper`. A lower end in decimal is never above
+ * the end, an upper one below 1 never below it, and both are off by at most two in the last digit; an end of 1 or more is 1.000e-00, in both directions. So an
+ * upper end that prints as 1.000e-00 may be far above 1: look at the end itself. It takes any m and e, also those that no read gives: zero is 0.000e-00, and
+ * a number too small for the table of powers of ten, about 10^-43, is 0.000e-00 as a lower end and 1.000e-43 as an upper one. */
+jinthuol_decimal jinthuol_to_decimal(bool up, jinthuol_scaled number);
+
 /* The listing of a script of begin, add and read records, on a session of its own; `0 refused 8` where the script has more than 65,536 bytes.
- * A line is written only while 100 bytes of the buffer are left; where fewer are left before the listing's end, it is cut between two lines
- * and `ended` is false. 100 bytes for each byte of the script are enough: a line is given 100 bytes, and no listing has more lines than its
+ * A line is written only while 150 bytes of the buffer are left; where fewer are left before the listing's end, it is cut between two lines
+ * and `ended` is false. 150 bytes for each byte of the script are enough: a line is given 150 bytes, and no listing has more lines than its
  * script has bytes. The bytes past those used are as they were. Script and buffer may not overlap. */
 jinthuol_listing jinthuol_run(const uint8_t *script, size_t script_length, uint8_t *out, size_t out_length);
 

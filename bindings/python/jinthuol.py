@@ -15,7 +15,9 @@ Lengths are whole centimetres. A call gives an Answer:
     N = 55
     >>> answer = session.read()
     >>> print(answer)
-    N = 55: 2627622691 × 2^-35 to 2627623074 × 2^-35, alert
+    N = 55: 2627622691 × 2^-35 to 2627623074 × 2^-35, alert, 7.647e-02 to 7.648e-02
+    >>> print(*answer.decimals)
+    7.647e-02 7.648e-02
     >>> answer.floats
     (0.07647388530313037, 0.07647389644989744)
     >>> answer.lower.fraction
@@ -39,7 +41,7 @@ from fractions import Fraction
 from typing import NamedTuple
 
 # JINTHUOL_VERSION of bindings/c/jinthuol.h.
-VERSION = 2
+VERSION = 3
 
 # The condition of each refusal. 1, 2 and 8 are in listings only.
 REFUSALS = {
@@ -92,6 +94,20 @@ class Inputs(Struct):
     _fields_ = [("R", c_uint32), ("sx", c_uint32), ("sy", c_uint32), ("xm", c_int32), ("ym", c_int32)]
 
 
+class Decimal(Struct):
+    """d.ddd × 10^-power, where digits is dddd: 1000 to 9999, or 0. As text `d.ddde-` and the power in two digits."""
+
+    _fields_ = [("digits", c_uint32), ("power", c_uint32)]
+
+    @property
+    def fraction(self):
+        """The number that is printed."""
+        return Fraction(self.digits, 10 ** (self.power + 3))
+
+    def __str__(self):
+        return f"{self.digits // 1000}.{self.digits % 1000:03}e-{self.power:02}"
+
+
 class Scaled(Struct):
     """m × 2^e: m from 2^31 to 2^32 − 1, or zero as m = 0 and e = 0."""
 
@@ -109,6 +125,17 @@ class Scaled(Struct):
     def float_up(self):
         """The least float that is not below it, which is the number itself where e fits; inf where all are below it."""
         return self.rounded(True)
+
+    def decimal_down(self):
+        """As a lower end in decimal: never above it, and off by at most two in the last digit where it is below 1."""
+        return LIBRARY.jinthuol_to_decimal(False, self)
+
+    def decimal_up(self):
+        """As an upper end in decimal: where it is below 1 never below it, and off by at most two in the last digit.
+
+        1.000e-00 where it is 1 or more.
+        """
+        return LIBRARY.jinthuol_to_decimal(True, self)
 
     def rounded(self, up):
         # m has 32 bits and a float 53: only e can be too small or too large.
@@ -150,6 +177,12 @@ class Answer(Struct):
         self.need_ends()
         return self.lower.float_down(), self.upper.float_up()
 
+    @property
+    def decimals(self):
+        """Both ends in decimal, as a listing has them. Raises ValueError where there are no ends."""
+        self.need_ends()
+        return self.lower.decimal_down(), self.upper.decimal_up()
+
     def need_ends(self):
         if not self.has_ends:
             raise ValueError(f"no ends in this answer: {self}")
@@ -157,8 +190,10 @@ class Answer(Struct):
     def __str__(self):
         if self.refusal:
             return f"refused {self.refusal}: {REFUSALS[self.refusal]}"
-        ends = f": {self.lower} to {self.upper}, {self.class_name}" if self.has_ends else ""
-        return f"N = {self.N}{ends}"
+        if not self.has_ends:
+            return f"N = {self.N}"
+        lower, upper = self.decimals
+        return f"N = {self.N}: {self.lower} to {self.upper}, {self.class_name}, {lower} to {upper}"
 
 
 class Kept(Struct):
@@ -219,6 +254,7 @@ def load():
         ("begin", Answer, POINTER(Kept), Inputs),
         ("add", Answer, POINTER(Kept), c_uint16),
         ("read", Answer, Kept),
+        ("to_decimal", Decimal, c_bool, Scaled),
         ("run", Listing, c_char_p, c_size_t, POINTER(c_char), c_size_t),
     ):
         function = getattr(library, f"jinthuol_{name}")
@@ -266,8 +302,8 @@ class Session:
 def run(script):
     """The listing of a script, both as bytes."""
     script = memoryview(script).tobytes()
-    # 100 bytes for each byte of the script are enough.
-    out = ctypes.create_string_buffer(100 * min(len(script), 65_536))
+    # 150 bytes for each byte of the script are enough.
+    out = ctypes.create_string_buffer(150 * min(len(script), 65_536))
     listing = LIBRARY.jinthuol_run(script, len(script), out, len(out))
     if not listing.ended:
         raise RuntimeError(f"{len(out)} bytes were too few")

@@ -62,7 +62,8 @@ pub struct Answer {
 
 impl fmt::Display for Answer {
     fn fmt(&self, f: &mut fmt::Formatter<'_>) -> fmt::Result {
-        write!(f, "N = {}: {} to {}, {}", self.N, self.lower, self.upper, self.class)
+        write!(f, "N = {}: {} to {}, {}", self.N, self.lower, self.upper, self.class)?;
+        write!(f, ", {} to {}", self.lower.decimal_down(), self.upper.decimal_up())
     }
 }
 

@@ -4,6 +4,7 @@
 //! Nothing checks the declarations against the library but the tests.
 
 use crate::answer::Scaled;
+use crate::decimal::Decimal;
 use crate::script::Listing;
 use crate::session::{Encounter, Session};
 
@@ -19,8 +20,8 @@ pub struct Answer {
     pub class: u32,
 }
 
-// `safe`: the types of these five say all that they trust, but that the library has this crate's
-// version, which `Session::empty` and `run_into` test first. A reference is valid, and not shared while
+// `safe`: the types of these six say all that they trust, but that the library has this crate's
+// version, which `Session::empty`, `run_into` and the decimals test first. A reference is valid, and not shared while
 // it is lent. A `Session` came from these calls, since nothing else writes its private field.
 unsafe extern "C" {
     /// Trusts nothing.
@@ -37,6 +38,9 @@ unsafe extern "C" {
 
     /// Trusts that the session came from these calls.
     pub safe fn jinthuol_read(session: Session) -> Answer;
+
+    /// Trusts nothing. Any m and e will do.
+    pub safe fn jinthuol_to_decimal(up: bool, number: Scaled) -> Decimal;
 
     /// Trusts that both pointers are valid for their lengths, for reads and for writes, that the
     /// bytes do not overlap, and that no pointer is null, also where its length is 0. Any bytes

@@ -12,7 +12,8 @@
 //! assert_eq!(refusal.to_string(), "refused 23: read: 2M above N + 2");
 //! assert_eq!(session.add(54), Ok(55));
 //! let answer = session.read()?;
-//! assert_eq!(answer.to_string(), "N = 55: 2627622691 × 2^-35 to 2627623074 × 2^-35, alert");
+//! assert_eq!(answer.to_string(), "N = 55: 2627622691 × 2^-35 to 2627623074 × 2^-35, alert, 7.647e-02 to 7.648e-02");
+//! assert_eq!(answer.upper.decimal_up().to_string(), "7.648e-02");
 //! assert_eq!(answer.class, Class::Alert);
 //! assert_eq!(answer.lower.to_f64(), Some(0.07647388530313037));
 //! # Ok::<(), Refusal>(())
@@ -27,6 +28,8 @@
 
 #[forbid(unsafe_code)]
 mod answer;
+#[forbid(unsafe_code)]
+mod decimal;
 #[allow(unsafe_code)]
 mod ffi;
 #[forbid(unsafe_code)]
@@ -37,20 +40,21 @@ mod script;
 mod session;
 
 pub use answer::{Answer, Class, Scaled};
+pub use decimal::Decimal;
 pub use refusal::Refusal;
 pub use script::{run, run_into, Listing};
 pub use session::{Encounter, Session};
 
 /// The version of the library's functions that this crate is for: JINTHUOL_VERSION of bindings/c/jinthuol.h.
-pub const VERSION: u32 = 2;
+pub const VERSION: u32 = 3;
 
 /// The version of the library that this crate was linked with. Where it is not [`VERSION`], [`Session::empty`],
-/// [`run`] and [`run_into`] panic: the structs may be others.
+/// [`run`], [`run_into`] and the decimals of a [`Scaled`] panic: the structs may be others.
 pub fn library_version() -> u32 {
     ffi::jinthuol_version()
 }
 
-/// Every session and every listing starts here.
+/// Every session, every listing and every decimal starts here.
 fn assert_version() {
     assert_eq!(library_version(), VERSION, "libjinthuol.a is of another version than this crate");
 }

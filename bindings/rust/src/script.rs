@@ -13,13 +13,13 @@ pub struct Listing {
 }
 
 /// A line is written only while so many bytes of the buffer are left.
-const ROOM: usize = 100;
+const ROOM: usize = 150;
 /// A longer script is refused as 8.
 const LONGEST: usize = 65_536;
 
 /// The listing of a script of begin, add and read records, on a session of its own.
 pub fn run(script: &[u8]) -> Vec<u8> {
-    // 100 bytes for each byte of the script are enough, and for one line where it is too long: this is
+    // 150 bytes for each byte of the script are enough, and for one line where it is too long: this is
     // promised and proved of `jinthuol_run`.
     let mut out = vec![0; ROOM * script.len().min(LONGEST)];
     let listing = run_into(script, &mut out);
@@ -29,7 +29,7 @@ pub fn run(script: &[u8]) -> Vec<u8> {
     out
 }
 
-/// Writes the listing into a buffer, line by line while 100 bytes are left. So it may be cut, between
+/// Writes the listing into a buffer, line by line while 150 bytes are left. So it may be cut, between
 /// two lines. The bytes past those used are as they were.
 pub fn run_into(script: &[u8], out: &mut [u8]) -> Listing {
     crate::assert_version();

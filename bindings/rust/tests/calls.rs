@@ -1,7 +1,7 @@
 //! Document 01's encounters and refusals through begin, add and read.
 #![allow(non_snake_case)]
 
-use jinthuol::{library_version, Answer, Class, Encounter, Refusal, Scaled, Session, VERSION};
+use jinthuol::{library_version, Answer, Class, Decimal, Encounter, Refusal, Scaled, Session, VERSION};
 
 const HALF: Encounter = of(10, 10, 10, 0, 0);
 const FULL: Encounter = of(8, 1, 1, 8, 0);
@@ -173,9 +173,31 @@ fn refusals_in_words() {
 #[test]
 fn answers_in_words() {
     let read = at(HALF, 1).read().unwrap();
-    assert_eq!(read.to_string(), "N = 1: 2605029163 × 2^-33 to 3907544026 × 2^-33, alert");
+    assert_eq!(read.to_string(), "N = 1: 2605029163 × 2^-33 to 3907544026 × 2^-33, alert, 3.032e-01 to 4.549e-01");
     assert_eq!((Scaled { m: 0, e: 0 }).to_string(), "0");
     assert_eq!(format!("{:>6}|{}|{}", Class::Clear, Class::Alert, Class::Open), " clear|alert|open");
+}
+
+/// Request #103 at its edges: as a lower end and as an upper one.
+#[test]
+fn decimals() {
+    for (m, e, down, up) in [
+        (3364829335, -33, "3.917e-01", "3.918e-01"),
+        (u32::MAX, -32, "9.999e-01", "1.001e-00"),
+        (u32::MAX - 1, -32, "9.999e-01", "1.000e-00"),
+        (1 << 31, -31, "1.000e-00", "1.000e-00"),
+        (u32::MAX, i32::MAX, "1.000e-00", "1.000e-00"),
+        (3961408126, -95, "9.999e-20", "1.001e-19"),
+        (3381150765, -168, "9.037e-42", "9.038e-42"),
+        (1, -142, "1.793e-43", "1.794e-43"),
+        (1 << 31, i32::MIN, "0.000e-00", "1.000e-43"),
+        (0, 0, "0.000e-00", "0.000e-00"),
+    ] {
+        let number = Scaled { m, e };
+        let found = (number.decimal_down().to_string(), number.decimal_up().to_string());
+        assert_eq!(found, (down.into(), up.into()), "{number}");
+    }
+    assert_eq!((Scaled { m: 1 << 31, e: -34 }).decimal_down(), Decimal { digits: 1250, power: 1 });
 }
 
 /// The f64 of a number is the number, and there is none just where no f64 is.

@@ -45,7 +45,8 @@ fn by_calls(script: &[u8]) -> String {
                 added.map(|n| format!("added {n}"))
             }
             Some(Some(_)) => session.read().map(|a| {
-                format!("read {} {} {} {} {} {}", a.N, a.lower.m, a.lower.e, a.upper.m, a.upper.e, a.class)
+                let ends = format!("{} {} {} {}", a.lower.m, a.lower.e, a.upper.m, a.upper.e);
+                format!("read {} {ends} {} {} {}", a.N, a.class, a.lower.decimal_down(), a.upper.decimal_up())
             }),
         };
         let last = matches!(answer, Err(Refusal(1 | 2)));
@@ -79,7 +80,7 @@ fn in_buffer(name: &str, script: &[u8], listing: &[u8], size: usize) -> Listing 
     assert!(text.is_empty() || text.ends_with(b"\n"), "{what}");
     assert_eq!(rest, &before[written.used..], "{what}");
     assert_eq!(written.ended, text == listing, "{what}");
-    assert!(written.ended || size - written.used < 100, "{what}");
+    assert!(written.ended || size - written.used < 150, "{what}");
     written
 }
 
@@ -91,7 +92,7 @@ fn listings_of_examples() {
         for size in 0..=400 {
             in_buffer(&name, &script, &listing, size);
         }
-        assert!(in_buffer(&name, &script, &listing, listing.len() + 100).ended, "{name}");
+        assert!(in_buffer(&name, &script, &listing, listing.len() + 150).ended, "{name}");
         assert!(in_buffer(&name, &script, &listing, 1 << 20).ended, "{name}");
     }
 }
@@ -125,7 +126,7 @@ fn longest_scripts() {
     for script in [reads, vec![3; 65_536], encounters] {
         let listing = run(&script);
         same("a long script", &listing, by_calls(&script).as_bytes());
-        for size in [100, 65_536, listing.len() - 1, listing.len() + 99, listing.len() + 100] {
+        for size in [150, 65_536, listing.len() - 1, listing.len() + 149, listing.len() + 150] {
             in_buffer("a long script", &script, &listing, size);
         }
     }
@@ -138,7 +139,7 @@ fn too_long_a_script() {
         same("a script too long", &run(&script), b"0 refused 8\n");
         for size in 0..=400 {
             let written = in_buffer("a script too long", &script, b"0 refused 8\n", size);
-            assert_eq!(written.ended, size >= 100, "{size} bytes");
+            assert_eq!(written.ended, size >= 150, "{size} bytes");
         }
     }
 }
