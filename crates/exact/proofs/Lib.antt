@@ -23,4 +23,6 @@ pub mod Exponents
 pub mod Mirror
 pub mod Tables
 pub mod Least
+pub mod DecimalProducts
+pub mod DecimalCases
 pub mod Decimals

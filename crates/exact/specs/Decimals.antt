@@ -57,9 +57,12 @@ one-or-more = record { digits = 1000; power = 0 }
 abbrev pub nothing : Decimal
 nothing = record { digits = 0; power = 0 }
 
+abbrev pub smallest : Decimal
+smallest = record { digits = 1000; power = 43 }
+
 unfoldable pub too-small : Bool → Scaled → Decimal
 too-small false x = nothing
-too-small true x = cond (eqb (x .m) 0) nothing (record { digits = 1000; power = 43 })
+too-small true x = cond (eqb (x .m) 0) nothing smallest
 
 -- whether x is below 1
 unfoldable pub below-1 : Scaled → Bool

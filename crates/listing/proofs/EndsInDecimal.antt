@@ -1,7 +1,7 @@
 -- Request #103: the text of a decimal, as the code forms it.
 use Prim.Native.Nat.{ℕ, _/_}
 use mathlib.Core.Path.{_≡_, refl}
-use mathlib.Core.List.{List, [], _∷_}
+use mathlib.Core.List.{[], _∷_}
 use lib.ListN.{length}
 use Rattle.exact.specs.declared.Decimal.{Decimal}
 use Rattle.listing.specs.Line.{last-digit, decimal-text}

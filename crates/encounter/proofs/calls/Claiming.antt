@@ -1,5 +1,4 @@
 -- All that `Session::empty` promises beyond its session.
-use mathlib.Core.Path.{refl}
 use Rattle.exact.specs.declared.Encounter.{Encounter}
 use Rattle.exact.specs.Series.{series, exponential}
 use Rattle.exact.proofs.Rounding.{round-is, is-round}

@@ -10,19 +10,16 @@ use Rattle.exact.specs.Numbers.{exponential-cut}
 use Rattle.exact.specs.Scaled.{value}
 use Rattle.exact.specs.Series.{quotient}
 use Rattle.exact.specs.Steps.{lower-end, upper-end, alert, clear}
-use Rattle.exact.specs.Records.{read}
-use Rattle.exact.specs.Refusals.{Accepted, History, refuses-23, refusal}
-use Rattle.exact.proofs.Accepted.{passed}
+use Rattle.exact.specs.Refusals.{Accepted, refuses-23}
 use Rattle.exact.proofs.Enclosure.{enclosed}
 use Rattle.exact.proofs.LowerEnds.{lower-end-never-falls}
 use Rattle.exact.proofs.Fractions.{≼-refl, ≼-trans, mul-mono}
 use Rattle.exact.proofs.Order.{at-most-yes, at-most-holds}
 use Rattle.encounter.specs.declared.state.Session.{Session}
-use Rattle.encounter.specs.declared.state.Called.{Called}
 use Rattle.encounter.specs.declared.state.Class.{Class}
 use Rattle.encounter.specs.declared.state.Class.the-variants.{Clear, Alert, Open}
-use Rattle.encounter.specs.Session.{state, falls-under, class-of, bracket}
-use Rattle.encounter.specs.Calls.{outcome, reads, call}
+use Rattle.encounter.specs.Session.{falls-under, class-of, bracket}
+use Rattle.encounter.specs.Calls.{reads, call}
 use Rattle.encounter.specs.Claims.{Readable, OneEncounter, Classed}
 use Rattle.encounter.proofs.calls.AcceptedReads.{read-of}
 

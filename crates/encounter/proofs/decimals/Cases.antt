@@ -1,10 +1,9 @@
 -- The decimal of a number, by the cases of the code.
 use mathlib.Core.Path.{_≡_, refl, sym, _∙_}
 use mathlib.Core.Bool.{Bool, true, false}
-use Prim.Native.Nat.{ℕ, _+_, _-_, _*_, _^_, _≤_, _<_}
+use Prim.Native.Nat.{ℕ, _+_, _-_, _^_, _≤_, _<_}
 use native.Mathlib.Nat.{mul-le-mul-left}
 use native.Mathlib.Omega.{arith}
-use lib.Dec.{lit<}
 use lib.IntN.{ℤ, pos, negsuc, _-ℤ_}
 use lib.Pow.{pow-mono, pow-pos}
 use borrow.Author.Tests.{eq-eqb}
@@ -14,11 +13,11 @@ use Rattle.exact.specs.Integer.{posPart, negPart}
 use Rattle.exact.specs.Fraction.{Frac, _≼_, _≈_, _⊗_, whole}
 use Rattle.exact.specs.Scaled.{value, Normal}
 use Rattle.exact.specs.Decimals.{table-length, times-power, least-power, floor, digits-of, at-power, one-or-more, nothing, too-small, below-1, decimal-of, Printed}
-use Rattle.exact.specs.Private.Ranges.{InRange}
 use Rattle.exact.proofs.Fractions.{_≺_, ≼-refl, ≼-trans, ≼-≺, ≼-of-≺, ≼-of, ≽-of, mul-mono}
 use Rattle.exact.proofs.Order.{above-yes, above-no}
 use Rattle.exact.proofs.Integers.{balanced, pos-diff, neg-diff}
-use Rattle.exact.proofs.Decimals.{is-one, is-found, is-small, low-power, whole-most, digits-most, digits-high, small-lower, printed, decimal-same}
+use Rattle.exact.proofs.DecimalCases.{is-one, is-found, is-small, low-power, whole-most, digits-most, digits-high, decimal-same}
+use Rattle.exact.proofs.Decimals.{printed}
 use Rattle.encounter.proofs.decimals.Searching.{below-power, none-reaches}
 use Rattle.encounter.proofs.decimals.Wholes.{depth}
 

@@ -1,5 +1,5 @@
 -- The four arrays are the table of the rule: what is read at a place is the rounding of its power of ten. One computation over all entries of a direction.
-use mathlib.Core.Path.{_≡_, refl, sym, ap}
+use mathlib.Core.Path.{_≡_, refl}
 use mathlib.Core.Bool.{Bool, true, false}
 use mathlib.Core.List.{List}
 use Prim.Native.Nat.{ℕ, _<_}
@@ -8,7 +8,6 @@ use lib.Ieee.{size, span, climb}
 use lib.ListN.{getD}
 use mir.Syntax.{w32}
 use mir.Val.{toZ, ofZ}
-use Rattle.exact.specs.declared.Scaled.{Scaled}
 use Rattle.exact.specs.Fraction.{whole}
 use Rattle.exact.specs.Scaled.{scaled}
 use Rattle.exact.specs.Decimals.{table-length, entry}

@@ -1,5 +1,5 @@
 -- The search for the least power: where it begins, and one place after the other.
-use mathlib.Core.Path.{_≡_, refl, sym, subst, _∙_}
+use mathlib.Core.Path.{_≡_, refl, sym, subst}
 use mathlib.Core.Bool.{Bool, true, false}
 use mathlib.Core.Logic.{inr}
 use Prim.Native.Nat.{ℕ, zero, suc, _+_, _-_, _*_, _/_, _^_, _≤_, _<_}
@@ -22,7 +22,7 @@ use Rattle.exact.proofs.Ranges.{widen, product-range, fraction-range}
 use Rattle.exact.proofs.Rounding.{round-is}
 use Rattle.exact.proofs.Tables.{table, agree}
 use Rattle.exact.proofs.Least.{least-is}
-use Rattle.exact.proofs.Decimals.{ordered, too-low, under, floor-least, floor-below, reached}
+use Rattle.exact.proofs.DecimalProducts.{ordered, too-low, under, floor-least, floor-below, reached}
 use Rattle.encounter.proofs.decimals.Wholes.{flat}
 
 -- ---- where it begins

@@ -1,12 +1,5 @@
-use Prim.Native.Nat.{ℕ, _+_, _≤_}
 use native.Mathlib.Omega.{arith}
-use lib.IntN.{pos, _-ℤ_}
-use mathlib.Core.Path.{_≡_}
 use borrow.Author.Needs.{needs}
-use Rattle.exact.specs.declared.Scaled.{Scaled}
-use Rattle.exact.specs.Fraction.{whole}
-use Rattle.exact.specs.Scaled.{value, Normal}
-use Rattle.exact.proofs.Fractions.{_≺_}
 use Rattle.encounter.specs.Private.Loops.{narrow}
 use Rattle.encounter.proofs.decimals.Searching.{below-one}
 use Rattle.encounter.proofs.decimals.Cases.{unit, whole-fine, digits-fine, found-is, none-is}

@@ -1,4 +1,4 @@
-use Rattle.exact.proofs.Decimals.{small-lower, small-upper}
+use Rattle.exact.proofs.DecimalCases.{small-lower, small-upper}
 use Rattle.encounter.proofs.decimals.below_the_table.Statement.{statement}
 use Rattle.encounter.proofs.decimals.below_the_table.Tie as tie
 

@@ -1,6 +1,6 @@
 use mathlib.Core.Path.{sym}
 use borrow.Author.Needs.{needs}
-use Rattle.exact.proofs.Decimals.{at-power-few, at-power-carried}
+use Rattle.exact.proofs.DecimalCases.{at-power-few, at-power-carried}
 use Rattle.encounter.proofs.decimals.decimal_at.Statement.{statement}
 use Rattle.encounter.proofs.decimals.decimal_at.Tie as tie
 

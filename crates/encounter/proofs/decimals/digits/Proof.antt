@@ -1,5 +1,5 @@
 use borrow.Author.Needs.{needs}
-use Rattle.exact.proofs.Decimals.{digits-up, digits-cut, digits-same}
+use Rattle.exact.proofs.DecimalCases.{digits-up, digits-cut, digits-same}
 use Rattle.encounter.proofs.decimals.digits.Statement.{statement}
 use Rattle.encounter.proofs.decimals.digits.Tie as tie
 

@@ -1,6 +1,6 @@
-use mathlib.Core.Path.{_≡_, sym, _∙_}
+use mathlib.Core.Path.{_≡_}
 use mathlib.Core.Logic.{inr}
-use Prim.Native.Nat.{ℕ, _+_, _*_, _^_, _≤_, _<_}
+use Prim.Native.Nat.{ℕ, _+_, _*_, _^_, _<_}
 use native.Mathlib.Nat.{mod-eq-of-lt}
 use native.Mathlib.Omega.{arith}
 use lib.Count.{leadingZeros}
@@ -9,10 +9,7 @@ use lib.IntN.{ℤ, pos, _-ℤ_}
 use mir.Facts.{toZ-ofZ}
 use mir.Syntax.{w32, w64}
 use mir.Val.{SFits}
-use Rattle.exact.specs.declared.Scaled.{Scaled}
-use Rattle.exact.specs.Fraction.{_≈_}
-use Rattle.exact.specs.Scaled.{scaled, value, Normal}
-use Rattle.exact.specs.Private.Ranges.{InRange}
+use Rattle.exact.specs.Scaled.{scaled, Normal}
 use Rattle.exact.proofs.Bits.{leading-size, size-pos}
 use Rattle.exact.proofs.Signed.{back-in, longer, pos-fits, neg-fits}
 use Rattle.exact.proofs.Integers.{pos-diff, neg-diff}
