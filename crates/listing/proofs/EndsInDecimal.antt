@@ -1,14 +1,18 @@
 -- Request #103: the text of a decimal, as the code forms it.
 use Prim.Native.Nat.{ℕ, _/_}
+use mathlib.Core.Bool.{Bool}
 use mathlib.Core.Path.{_≡_, refl}
 use mathlib.Core.List.{[], _∷_}
 use lib.ListN.{length}
+use Rattle.exact.specs.declared.Scaled.{Scaled}
 use Rattle.exact.specs.declared.Decimal.{Decimal}
+use Rattle.exact.specs.Decimals.{decimal-of}
 use Rattle.listing.specs.Line.{last-digit, decimal-text}
 
-pub text-length : (d : Decimal) → length (decimal-text d) ≡ 9
+-- the length of the text, whatever the decimal
+pub nine : (up : Bool) (x : Scaled) → length (decimal-text (decimal-of up x)) ≡ 9
 unfolding decimal-text
-text-length d = refl
+nine up x = refl
 
 pub text-is :
     {d d′ : Decimal} {a b c f g h : ℕ} →

@@ -12,7 +12,6 @@ use denote.Laws.{Is}
 use denote.Struct.Declared.{row}
 use denote.Struct.Laws as laws
 use Rattle.exact.specs.declared.Scaled.{Scaled}
-use Rattle.exact.specs.Decimals.{decimal-of}
 use Rattle.exact.proofs.Scaled as S
 use Rattle.exact.proofs.Scaled.Laws as S′
 use Rattle.encounter.specs.declared.state.Class.{Class}
@@ -22,7 +21,7 @@ use Rattle.encounter.proofs.state.Answer as A
 use Rattle.encounter.proofs.state.Answer.Laws as A′
 use Rattle.listing.specs.Line.{ascii, decimal, integer, scaled-text, class-text, ends-and-class, ends-in-decimal, read-text, taken-text, outcome-text, line, room}
 use Rattle.listing.proofs.Decimals.{decimal-10, decimal-20}
-use Rattle.listing.proofs.EndsInDecimal.{text-length}
+use Rattle.listing.proofs.EndsInDecimal.{nine}
 
 -- ---- what the types of the numbers say
 
@@ -76,8 +75,8 @@ module _ (offset kind : ℕ) (a : Answer) (o : offset < 2 ^ 64) (r : AnswerRange
     decimal-10 (a .upper .m) (r .upper .m),
     integer-11 (a .upper .e) (r .upper .e),
     class-5 (a .class),
-    text-length (decimal-of false (a .lower)),
-    text-length (decimal-of true (a .upper)),
+    nine false (a .lower),
+    nine true (a .upper),
   ))
 
   -- the sum of the longest parts is at most the room

@@ -1,7 +1,6 @@
 use native.Mathlib.Omega.{arith}
 use borrow.Author.Needs.{needs}
-use Rattle.exact.specs.Decimals.{decimal-of}
-use Rattle.listing.proofs.EndsInDecimal.{text-length, text-is}
+use Rattle.listing.proofs.EndsInDecimal.{nine, text-is}
 use Rattle.listing.proofs.Putting.{renamed}
 use Rattle.listing.proofs.put_decimal.Statement.{statement}
 use Rattle.listing.proofs.put_decimal.Tie as tie
@@ -33,7 +32,7 @@ slice-aggregate-put c = search needs
 put-requires : tie.Need-put-requires
 put-requires c κs =
     let z = c .before .before .before .before .before .before .before .before .before .before in
-    record { enough = omega (arith, text-length (decimal-of (z .args .up) (z .args .x)), z .pre .enough) }
+    record { enough = omega (arith, nine (z .args .up) (z .args .x), z .pre .enough) }
 
 same-length : tie.Need-same-length
 same-length c = search needs

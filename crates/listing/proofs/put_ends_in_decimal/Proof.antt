@@ -1,4 +1,6 @@
+use mathlib.Core.Bool.{true, false}
 use Rattle.listing.specs.Line.{ends-in-decimal}
+use Rattle.listing.proofs.EndsInDecimal.{nine}
 use Rattle.listing.proofs.Putting.{joined, parts}
 use native.Mathlib.Omega.{arith}
 use borrow.Author.Needs.{needs}
@@ -7,18 +9,18 @@ use Rattle.listing.proofs.put_ends_in_decimal.Tie as tie
 
 put-decimal-requires : tie.Need-put-decimal-requires
 unfolding ends-in-decimal
-put-decimal-requires c κs = omega (arith, parts)
+put-decimal-requires c κs = let x = c .before .before .before .before .args .a .lower in omega (arith, parts, nine false x, nine true x)
 
 slice-aggregate-put : tie.Need-slice-aggregate-put
 slice-aggregate-put c = search needs
 
 put-requires : tie.Need-put-requires
 unfolding ends-in-decimal
-put-requires c κs = omega (arith, parts)
+put-requires c κs = let x = c .before .before .before .before .before .before .before .before .before .args .a .lower in omega (arith, parts, nine false x, nine true x)
 
 put-decimal-requires-2 : tie.Need-put-decimal-requires-2
 unfolding ends-in-decimal
-put-decimal-requires-2 c κs = omega (arith, parts)
+put-decimal-requires-2 c κs = let x = c .before .before .before .before .before .before .before .before .before .before .before .before .before .args .a .lower in omega (arith, parts, nine false x, nine true x)
 
 same-length : tie.Need-same-length
 same-length c = search needs

@@ -38,7 +38,7 @@ product-requires c κs =
     let z = c .before .before .before .before .before in
     let up = z .args .up in (
       widen (lit≤ tt) (in-range up (narrow (z .args .x)) (z .args .s) (z .pre .0) (z .pre .1) (z .pre .2)),
-      rw (c .widen .ensures, c .before .power-of-ten .ensures) (widen (lit≤ tt) (entry-range up (c .before .before .before .loop .k) (c .before .before .loop-test .taken))),
+      rw (c .widen .ensures, c .before .power-of-ten .ensures) (widen (lit≤ tt) (entry-range _ (c .before .before .before .loop .k) (c .before .before .loop-test .taken))),
     )
 
 whole-part-requires : tie.Need-whole-part-requires Inv-loop μ-loop
