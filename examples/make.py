@@ -53,6 +53,12 @@ FULL = 8, 1, 1, 8, 0
 OPEN_THEN_ALERT = 1000, 2000, 1700, 1000, 6400
 OPEN_THEN_CLEAR = 1000, 3000, 1500, 2000, 5800
 ALWAYS_OPEN = 1302, 92063, 92063, 0, 0
+# Of no document: ends whose decimals are at an edge. The upper end is just below 1/10,000; just below 1; the lower end is just
+# above 10^-19; both ends are as small as any that are known.
+BELOW_THRESHOLD = 1241890, 5822809, 2710891, 8414864, 9077603
+BELOW_1 = 4778498, 1167591, 1167591, 190612, 51940
+ABOVE_A_POWER = 632, 5506137, 1379156, 4053824, 9949895
+SMALLEST = 1, 10000000, 887356, 9999905, 9999995
 
 SCRIPTS = {
     "test-1": begin(*TEST_1) + reads_at(35, 36, 55, 101),
@@ -71,6 +77,18 @@ SCRIPTS = {
     + reads_at(1, 2, 4, 5, 19)
     + begin(*ALWAYS_OPEN)
     + reads_at(1, 2, 14),
+    "decimals": begin(*HALF)
+    + reads_at(3, 20)
+    + begin(*ALFANO_3)
+    + reads_at(597, 765)
+    + begin(*BELOW_THRESHOLD)
+    + reads_at(1, 14)
+    + begin(*BELOW_1)
+    + reads_at(19)
+    + begin(*ABOVE_A_POWER)
+    + reads_at(1)
+    + begin(*SMALLEST)
+    + reads_at(1),
     "negative-miss": begin(*CSM_2) + reads_at(1, 6) + begin(*CSM_2_MIRRORED) + reads_at(1, 6),
 }
 

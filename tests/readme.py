@@ -15,6 +15,7 @@ from decimal import Decimal
 sys.dont_write_bytecode = True
 import options
 import orders
+import records
 from brackets import as_float
 from checks import Checks
 from encounters import ASTRIDE, DOCUMENTS, TEST_1
@@ -44,12 +45,15 @@ def of_c(lines):
     braced = lambda encounter: "{%d, %d, %d, %d, %d}" % encounter
     for encounter, class_ in (TEST_1, "alert"), (DOCUMENTS["Chan 5"], "clear"), (ASTRIDE, "open"):
         read = orders.at_order(encounter, 55).read()
-        due = f"about {as_float(read.lower):.9g} to {as_float(read.upper):.9g}, {class_}"
+        due = [
+            f"{records.decimal_text(False, read.lower)} to {records.decimal_text(True, read.upper)}, {class_}",
+            f"about {as_float(read.lower):.9g} to {as_float(read.upper):.9g}",
+        ]
         main = "\n".join(code).replace(braced(TEST_1), braced(encounter))
         checks.check(braced(encounter) in main, "commands", f"no encounter {encounter} in the lines of C")
         source.write_text("\n".join(["#include <math.h>", "#include <stdio.h>", header, "int main(void) {", main, "}"]))
         prints(f"{compiler} -o {program}", [])
-        prints(str(program), [due])
+        prints(str(program), due)
 
 
 def main():

@@ -198,7 +198,7 @@ def of_readme():
     # Decimals of the reads that its text speaks of, outward.
     listings = {stem: (EXAMPLES / f"{stem}.listing").read_text() for stem in ("test-1", "alfano-3")}
     for stem, N, digits, text in (
-        ("test-1", 55, 8, "from {} to {}, so its first digits are 0.0764738,"),
+        ("test-1", 55, 8, "from {} to {}, so its first digits are 0.0764738."),
         ("test-1", 36, 7, "Test 1 has {} to {} at N = 36"),
         ("test-1", 55, 8, "and {} to {} at N = 55"),
     ):
@@ -232,6 +232,7 @@ def of_readme():
     stays = stuck[0].read().upper == stuck[1].read().upper and later < value(stuck[0].read().upper)
     checks.check(text in README and stays, "README", text)
     of_figures()
+    of_printed_ends()
     of_classes()
     of_titles("README.md", README)
 
@@ -258,6 +259,25 @@ def of_figures():
     wide = (1 + Fraction(1, 1 << 31)) ** (18 * 55 + 2600) - 1
     text = "1.7 millionths at N = 55"
     same("README", text, (f"{float(wide) * 1e6:.1f}", text in README), ("1.7", True))
+
+
+def of_printed_ends():
+    """What README says of ends in decimal."""
+    _, upper = ends((EXAMPLES / "alfano-3.listing").read_text(), 597)
+    text = "`1.000e-00`, however large it is: Alfano 3 at N = 597 prints so and has 2.9 × 10^49"
+    same("README", text, (records.decimal_text(True, upper), text in README), ("1.000e-00", True))
+    inputs = 1241890, 5822809, 2710891, 8414864, 9077603
+    text = f"({', '.join(map(str, inputs))}) at N = 1 prints `1.001e-04`, and its upper end is just below 1/10,000"
+    read = orders.at_order(Encounter(*inputs), 1).read()
+    below = value(read.upper) < Fraction(1, 10_000) <= value(scaled.above(scaled.Scaled(*read.upper)))
+    found = records.decimal_text(True, read.upper), read.class_name, below, text in README
+    same("README", text, found, ("1.001e-04", "clear", True, True))
+    for m, due in (scaled.LIMIT - 1, "1.001e-00"), (scaled.LIMIT - 2, "1.000e-00"):
+        same("README", "just below 1", records.decimal_text(True, (m, -scaled.BITS)), due)
+    checks.check("One just below 1 prints as `1.000e-00` or `1.001e-00`" in README, "README", "just below 1")
+    text, listing = (EXAMPLES / "decimals.md").read_text(), (EXAMPLES / "decimals.listing").read_text()
+    printed = re.findall(r"`([^`]*\de-\d\d)`", text)
+    checks.check(len(printed) > 7 and all(words in listing for words in printed), "examples", f"decimals: {printed}")
 
 
 def classes(encounter):
