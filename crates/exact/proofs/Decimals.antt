@@ -76,31 +76,21 @@ module _ (x : Scaled) (n p : ℕ) (few : n < 10000) (low : p ≤ 43) (four : 100
   abbrev d : Decimal
   d = record { digits = n; power = p }
 
+  sided : (up : Bool) → (up ≡ false → worth d ≼ value x) → (up ≡ true → value x ≼ worth d) → worth d ≼ value x ⊕ two-units d → value x ≼ worth d ⊕ two-units d → Printed up x d
+  sided up lower upper high low′ =
+      record { few-digits = few; small-power = low; significant = λ f. four; lower = lower; upper = λ e s. upper e; close = λ f s. (high, low′) }
+
   lower-prints : whole n ≼ value x ⊗ whole t → value x ⊗ whole t ≼ whole (n + 2) → Printed false x d
   unfolding worth two-units
   lower-prints a b =
       let side = not-above-unit (value x) n t t-pos a in
-      record {
-        few-digits = few;
-        small-power = low;
-        significant = λ f. four;
-        lower = λ e. side;
-        upper = λ e s. absurd (true≢false (sym e));
-        close = λ f s. (≼-trans side (drop-last _ _), two-below (value x) n t t-pos b);
-      }
+      sided false (λ e. side) (λ e. absurd (true≢false (sym e))) (≼-trans side (drop-last _ _)) (two-below (value x) n t t-pos b)
 
   upper-prints : value x ⊗ whole t ≼ whole n → whole n ≼ value x ⊗ whole t ⊕ whole 2 → Printed true x d
   unfolding worth two-units
   upper-prints a b =
       let side = not-below-unit (value x) n t t-pos a in
-      record {
-        few-digits = few;
-        small-power = low;
-        significant = λ f. four;
-        lower = λ e. absurd (true≢false e);
-        upper = λ e s. side;
-        close = λ f s. (two-above (value x) n t t-pos b, ≼-trans side (drop-last _ _));
-      }
+      sided true (λ e. absurd (true≢false e)) (λ e. side) (two-above (value x) n t t-pos b) (≼-trans side (drop-last _ _))
 
 -- 10,000 and 10,001 at one power, 1,000 and 1,001 at the next higher
 module _ (q : Frac) (i t : ℕ) (l : i ≤ 1) where

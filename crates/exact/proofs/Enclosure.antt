@@ -2,7 +2,7 @@
 use mathlib.Core.Path.{_≡_, refl}
 use mathlib.Core.Bool.{true, false}
 use Prim.Native.Nat.{ℕ, zero, suc, pred, _+_, _*_, _≤_, _<_}
-use native.Mathlib.Nat.{le-dest, add-suc, add-zero as plus-zero, mul-le-mul-left, lt-of-mul-lt-mul-right}
+use native.Mathlib.Nat.{mul-le-mul-left, lt-of-mul-lt-mul-right}
 use native.Mathlib.Numerals.{add-two}
 use native.Mathlib.Omega.{arith}
 use lib.Dec.{lit<}
@@ -20,7 +20,7 @@ use Rattle.exact.proofs.Rounding.{round-is, round-close}
 use Rattle.exact.proofs.Order.{not-above}
 use Rattle.exact.proofs.Unrounded.{exact-letters, letters-are, sum-is, powers-are}
 use Rattle.exact.proofs.Majorant.{m, exact-d, series-tail, exponential-tail}
-use Rattle.exact.proofs.Parallel.{Within, Close-letters, letters-close, start-close, terms-close, bound-close, tail-close, powers-close}
+use Rattle.exact.proofs.Parallel.{Within, in-order, Close-letters, letters-close, start-close, terms-close, bound-close, tail-close, powers-close}
 use Rattle.exact.proofs.Accepted.{facts}
 
 -- ---- D stays below, U above
@@ -32,24 +32,10 @@ pub up : (q : Frac) → q ≼ value (U q)
 up q = round-is true 32 q (lit< tt) .side
 
 pub below : Within value (round false 32) same same (λ w p q. p ≼ q)
-below = record {
-  same = ≼-refl;
-  more = λ l h. h;
-  plus = λ h k. add-mono h k;
-  times = λ h k. mul-mono h k;
-  share = λ n h. div-mono n h;
-  rounds = λ h. ≼-trans (down _) h;
-}
+below = in-order value (round false 32) same same (λ p q h. ≼-trans (down p) h)
 
 pub above : Within same same value (round true 32) (λ w p q. p ≼ q)
-above = record {
-  same = ≼-refl;
-  more = λ l h. h;
-  plus = λ h k. add-mono h k;
-  times = λ h k. mul-mono h k;
-  share = λ n h. div-mono n h;
-  rounds = λ h. ≼-trans h (up _);
-}
+above = in-order same same value (round true 32) (λ p q h. ≼-trans h (up q))
 
 pub one-is : value one ≈ whole 1
 unfolding value whole

@@ -2,10 +2,11 @@
 -- upper side is close above the lower". R w p q says that p is at most q, but for w roundings.
 use Prim.Native.Nat.{ℕ, zero, suc, _+_, _*_, _≤_}
 use native.Mathlib.Omega.{arith}
-use Rattle.exact.specs.Fraction.{Frac, _⊕_, _⊗_, _÷_}
+use Rattle.exact.specs.Fraction.{Frac, _≼_, _⊕_, _⊗_, _÷_}
 use Rattle.exact.specs.declared.Encounter.{Encounter}
 use Rattle.exact.specs.Series.{u, b, zx, zy, g, a₀}
 use Rattle.exact.specs.Steps.{LettersOf, TermsOf, PowersOf, add, mul, div, letters, start, first, next-c, next-p, next-v, next-y, next, terms, bound, next-d, tail-term, next-power, powers}
+use Rattle.exact.proofs.Fractions.{≼-refl, add-mono, mul-mono, div-mono}
 
 -- what such a relation has to keep
 pub record Within {S S′ : Type 0} (val : S → Frac) (rnd : Frac → S) (val′ : S′ → Frac) (rnd′ : Frac → S′) (R : ℕ → Frac → Frac → Type 0) : Type 0 where
@@ -15,6 +16,17 @@ pub record Within {S S′ : Type 0} (val : S → Frac) (rnd : Frac → S) (val�
   pub times : {i j : ℕ} {p q p′ q′ : Frac} → R i p q → R j p′ q′ → R (i + j) (p ⊗ p′) (q ⊗ q′)
   pub share : {i : ℕ} {p q : Frac} (n : ℕ) → R i p q → R i (p ÷ n) (q ÷ n)
   pub rounds : {i : ℕ} {p q : Frac} → R i p q → R (suc i) (val (rnd p)) (val′ (rnd′ q))
+
+-- "is at most", however many roundings, where both roundings keep it
+pub in-order : {S S′ : Type 0} (val : S → Frac) (rnd : Frac → S) (val′ : S′ → Frac) (rnd′ : Frac → S′) → ((p q : Frac) → p ≼ q → val (rnd p) ≼ val′ (rnd′ q)) → Within val rnd val′ rnd′ (λ w p q. p ≼ q)
+in-order val rnd val′ rnd′ rounds = record {
+  same = ≼-refl;
+  more = λ l h. h;
+  plus = λ h k. add-mono h k;
+  times = λ h k. mul-mono h k;
+  share = λ n h. div-mono n h;
+  rounds = λ h. rounds _ _ h;
+}
 
 module _ {S S′ : Type 0} (val : S → Frac) (rnd : Frac → S) (val′ : S′ → Frac) (rnd′ : Frac → S′) (R : ℕ → Frac → Frac → Type 0) (W : Within val rnd val′ rnd′ R) where
   add-R : {i j : ℕ} (w : ℕ) {x y : S} {x′ y′ : S′} → R i (val x) (val′ x′) → R j (val y) (val′ y′) → i ≤ w → j ≤ w → R (suc w) (val (add val rnd x y)) (val′ (add val′ rnd′ x′ y′))

@@ -18,9 +18,9 @@ use Rattle.exact.specs.Private.Ranges.{Bounds}
 use Rattle.exact.specs.Series.{a₀}
 use Rattle.exact.specs.Steps.{add, mul, div, start, first, terms, powers, next-power, side-letters, side-start, side-terms, side-powers, sum-to, exponential-with-tail, exponential-sum, r256, lower-end, upper-end}
 use Rattle.exact.specs.Refusals.{refuses-23, Accepted}
-use Rattle.exact.proofs.Fractions.{≼-refl, ≼-trans, add-mono, mul-mono, div-mono, num-pos, quot-mono, drop-last}
+use Rattle.exact.proofs.Fractions.{≼-refl, ≼-trans, add-mono, mul-mono, num-pos, quot-mono, drop-last}
 use Rattle.exact.proofs.Rounding.{round-mono}
-use Rattle.exact.proofs.Parallel.{Within, Close-powers, powers-close}
+use Rattle.exact.proofs.Parallel.{Within, in-order, Close-powers, powers-close}
 use Rattle.exact.proofs.Accepted.{facts}
 use Rattle.exact.proofs.LowerEnds.{lower-end-never-falls}
 use Rattle.exact.proofs.Enclosure.{up, exponential-pos, le-upper-powers, enclosed}
@@ -55,14 +55,7 @@ smallest-is = record { le = le-by-compare _ _ tt }
 
 -- the upper side at two values of t
 monotone : Within value (round true 32) value (round true 32) (λ w p q. p ≼ q)
-monotone = record {
-  same = ≼-refl;
-  more = λ l h. h;
-  plus = λ h k. add-mono h k;
-  times = λ h k. mul-mono h k;
-  share = λ n h. div-mono n h;
-  rounds = λ h. round-mono true 32 (lit< tt) h;
-}
+monotone = in-order value (round true 32) value (round true 32) (λ p q h. round-mono true 32 (lit< tt) h)
 
 with-tail-mono : (t t′ : Scaled) → value t ≼ value t′ → value (with-tail t) ≼ value (with-tail t′)
 with-tail-mono t t′ h = round-mono true 32 (lit< tt) (add-mono (both (pred exponential-cut) .sum) (mul-mono (≼-refl (whole 2)) (both exponential-cut .r)))
