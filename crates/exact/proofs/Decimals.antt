@@ -77,8 +77,8 @@ module _ (x : Scaled) (n p : ℕ) (few : n < 10000) (low : p ≤ 43) (four : 100
   d = record { digits = n; power = p }
 
   sided : (up : Bool) → (up ≡ false → worth d ≼ value x) → (up ≡ true → value x ≼ worth d) → worth d ≼ value x ⊕ two-units d → value x ≼ worth d ⊕ two-units d → Printed up x d
-  sided up lower upper high low′ =
-      record { few-digits = few; small-power = low; significant = λ f. four; lower = lower; upper = λ e s. upper e; close = λ f s. (high, low′) }
+  sided up lower upper from-above from-below =
+      record { few-digits = few; small-power = low; significant = λ f. four; lower = lower; upper = λ e s. upper e; close = λ f s. (from-above, from-below) }
 
   lower-prints : whole n ≼ value x ⊗ whole t → value x ⊗ whole t ≼ whole (n + 2) → Printed false x d
   unfolding worth two-units
