@@ -197,7 +197,7 @@ static void draw_screening(struct measured *list)
     }
 }
 
-/* Whether the decimals of both versions are the same: the ends of the cases, then drawn numbers of every e with a decimal of its own, and beyond. */
+/* Whether the decimals of both versions are the same: of the ends of the cases, then of drawn numbers with e from -290 to 9. */
 static int compare_decimals(void)
 {
     for (int i = 0; i < 1000000; i++) {
@@ -284,7 +284,7 @@ static int table(void)
     print_processor();
     printf("Nanoseconds and ratios, medians of %d rounds. A term is both sides and the tail term.\n", ROUNDS);
     printf("/same, /plain, /doubles: proved over it. mpfr/: MPFR over proved.\n");
-    printf("The ends, N and class of all contenders are equal, and the decimals.\n");
+    printf("The ends, N and class of all contenders are equal, and so are the decimals of both versions.\n");
     measure(list);
     for (int i = 0; i < CASE_COUNT; i++) {
         jinthuol_encounter E = CASES[i].E;

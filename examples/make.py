@@ -53,10 +53,12 @@ FULL = 8, 1, 1, 8, 0
 OPEN_THEN_ALERT = 1000, 2000, 1700, 1000, 6400
 OPEN_THEN_CLEAR = 1000, 3000, 1500, 2000, 5800
 ALWAYS_OPEN = 1302, 92063, 92063, 0, 0
-# Of no document: ends whose decimals are at an edge. The upper end is just below 1/10,000; just below 1; the lower end is just
-# above 10^-19; both ends are as small as any that are known.
+# Of no document: ends whose decimals are at an edge. The upper end is just below 1/10,000; just below 1, two steps and one;
+# a little below 1/10; the lower end is just above 10^-19; both ends are as small as any that are known.
 BELOW_THRESHOLD = 1241890, 5822809, 2710891, 8414864, 9077603
+NEXT_BELOW_1 = 7136390, 1648935, 1648935, 323971, 41207
 BELOW_1 = 4778498, 1167591, 1167591, 190612, 51940
+BELOW_A_POWER = 18579, 95136, 18760, 0, 4640
 ABOVE_A_POWER = 632, 5506137, 1379156, 4053824, 9949895
 SMALLEST = 1, 10000000, 887356, 9999905, 9999995
 
@@ -83,8 +85,12 @@ SCRIPTS = {
     + reads_at(597, 765)
     + begin(*BELOW_THRESHOLD)
     + reads_at(1, 14)
+    + begin(*NEXT_BELOW_1)
+    + reads_at(22)
     + begin(*BELOW_1)
     + reads_at(19)
+    + begin(*BELOW_A_POWER)
+    + reads_at(1)
     + begin(*ABOVE_A_POWER)
     + reads_at(1)
     + begin(*SMALLEST)

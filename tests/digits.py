@@ -3,8 +3,8 @@
 
     python3 tests/digits.py [--root FOLDER] [--seed N]
 
-The numbers are those of ends.py, each as a lower and as an upper end; every power that is printed and every k of the
-table is among them. scratch.py runs a program that asks for each: compiled, and on the interpreter as far as it gets.
+The numbers are those of ends.py, each as a lower and as an upper end; every power that is printed and every k that a
+number below 1 can have is among them. scratch.py runs a program that asks for each: compiled, and on the interpreter as far as it gets.
 """
 
 import itertools
@@ -42,8 +42,8 @@ def all_cases(seed):
     return [Case(up, x) for x in found for up in (False, True)]
 
 
-# What of the request the cases are to have, in each direction. A lower end below 1 is below 1,000 in thousandths: its
-# k is not 3.
+# What of the request the cases are to have, in each direction. No k is below 3, and a lower end below 1 times 1,000 stays
+# below 1,000: its k is not 3.
 KS = {(up, "k", k) for up in (False, True) for k in range(4 - up, decimals.LAST + 1)}
 POWERS = {(up, "power", power) for up in (False, True) for power in range(decimals.LAST - 2)}
 OTHERS = {(up, "is", what) for up in (False, True) for what in ("1 or more", "without k", "zero", "10,000")}

@@ -233,6 +233,7 @@ def of_readme():
     checks.check(text in README and stays, "README", text)
     of_figures()
     of_printed_ends()
+    of_printed_examples()
     of_classes()
     of_titles("README.md", README)
 
@@ -264,7 +265,7 @@ def of_figures():
 def of_printed_ends():
     """What README says of ends in decimal."""
     _, upper = ends((EXAMPLES / "alfano-3.listing").read_text(), 597)
-    text = "`1.000e-00`, however large it is: Alfano 3 at N = 597 prints so and has 2.9 × 10^49"
+    text = "`1.000e-00`, however large it is: Alfano 3's upper end at N = 597 prints so and is 2.9 × 10^49"
     same("README", text, (records.decimal_text(True, upper), text in README), ("1.000e-00", True))
     inputs = 1241890, 5822809, 2710891, 8414864, 9077603
     text = f"({', '.join(map(str, inputs))}) at N = 1 prints `1.001e-04`, and its upper end is just below 1/10,000"
@@ -274,10 +275,31 @@ def of_printed_ends():
     same("README", text, found, ("1.001e-04", "clear", True, True))
     for m, due in (scaled.LIMIT - 1, "1.001e-00"), (scaled.LIMIT - 2, "1.000e-00"):
         same("README", "just below 1", records.decimal_text(True, (m, -scaled.BITS)), due)
-    checks.check("One just below 1 prints as `1.000e-00` or `1.001e-00`" in README, "README", "just below 1")
-    text, listing = (EXAMPLES / "decimals.md").read_text(), (EXAMPLES / "decimals.listing").read_text()
-    printed = re.findall(r"`([^`]*\de-\d\d)`", text)
-    checks.check(len(printed) > 7 and all(words in listing for words in printed), "examples", f"decimals: {printed}")
+    checks.check("just below 1 prints as `1.000e-00` or `1.001e-00`" in README, "README", "just below 1")
+    lines = listed("decimals")
+    text = "an upper end of 0.099998 prints as `1.000e-01`, a lower end just above 10^-19 as `9.999e-20`"
+    upper, lower = records.printed(lines[155]).upper, records.printed(lines[177]).lower
+    next_to = decimal(True, upper, 5) == "9.9998e-02" and 0 < value(lower) * 10**19 - 1 < Fraction(1, 10**6)
+    checks.check(text in README and next_to, "README", text)
+
+
+def listed(stem):
+    """The lines of an example's listing by their offsets."""
+    lines = (EXAMPLES / f"{stem}.listing").read_text().splitlines()
+    return {int(line.split()[0]): line for line in lines}
+
+
+def of_printed_examples():
+    """What examples/decimals.md says: 'at byte N' and then what that line ends with, for each read."""
+    text, lines = (EXAMPLES / "decimals.md").read_text(), listed("decimals")
+    said = re.findall(r"[Aa]t byte (\d+)[^`]*`([^`]*)`", text)
+    reads = [offset for offset, line in lines.items() if line.split()[1] == "read"]
+    same("examples", "decimals, the reads", [int(offset) for offset, _ in said], reads)
+    for offset, words in said:
+        checks.check(lines[int(offset)].endswith(f" {words}"), "examples", f"decimals at {offset}: {words}")
+    below = 1 - 10_000 * value(records.printed(lines[79]).upper)
+    words = "below 1/10,000 by less than three parts in ten thousand million"
+    checks.check(words in text and 0 < below < Fraction(3, 10**10), "examples", f"decimals: {words}")
 
 
 def classes(encounter):

@@ -113,9 +113,9 @@ jinthuol_answer jinthuol_add(jinthuol_session *session, uint16_t count);
 jinthuol_answer jinthuol_read(jinthuol_session session);
 
 /* A number in decimal: as a lower end, or where up is true as an upper one. Take false for `lower` and true for `upper`. A lower end in decimal is never above
- * the end, an upper one below 1 never below it, and both are off by at most two in the last digit; an end of 1 or more is 1.000e-00, in both directions. So an
- * upper end that prints as 1.000e-00 may be far above 1: look at the end itself. It takes any m and e, also those that no read gives: zero is 0.000e-00, and
- * a number too small for the table of powers of ten, about 10^-43, is 0.000e-00 as a lower end and 1.000e-43 as an upper one. */
+ * the end, an upper one below 1 never below it, and below 1 both are off by at most two in the last digit; an end of 1 or more is 1.000e-00, in both directions.
+ * So an upper end that prints as 1.000e-00 may be far above 1: look at the end itself. It takes any m and e, also those that no read gives: zero is 0.000e-00,
+ * and another number too small for the table of powers of ten (below about 10^-43) is 0.000e-00 as a lower end and 1.000e-43 as an upper one. */
 jinthuol_decimal jinthuol_to_decimal(bool up, jinthuol_scaled number);
 
 /* The listing of a script of begin, add and read records, on a session of its own; `0 refused 8` where the script has more than 65,536 bytes.

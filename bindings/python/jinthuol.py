@@ -127,13 +127,18 @@ class Scaled(Struct):
         return self.rounded(True)
 
     def decimal_down(self):
-        """As a lower end in decimal: never above it, and off by at most two in the last digit where it is below 1."""
+        """As a lower end in decimal: never above it.
+
+        An end of a read that is below 1 is off by at most two in the last digit. 1.000e-00 where it is 1 or more;
+        0.000e-00 where it is too small for the table of powers of ten, which no end of a read is.
+        """
         return LIBRARY.jinthuol_to_decimal(False, self)
 
     def decimal_up(self):
-        """As an upper end in decimal: where it is below 1 never below it, and off by at most two in the last digit.
+        """As an upper end in decimal: where it is below 1 never below it.
 
-        1.000e-00 where it is 1 or more.
+        An end of a read that is below 1 is off by at most two in the last digit. 1.000e-00 where it is 1 or more;
+        1.000e-43 where it is too small for the table of powers of ten, which no end of a read is; 0.000e-00 for zero.
         """
         return LIBRARY.jinthuol_to_decimal(True, self)
 

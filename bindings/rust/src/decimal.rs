@@ -21,13 +21,16 @@ impl fmt::Display for Decimal {
 }
 
 impl Scaled {
-    /// As a lower end in decimal: never above it, and off by at most two in the last digit where it is below 1.
+    /// As a lower end in decimal: never above it. An end of a read that is below 1 is off by at most two in the last
+    /// digit; 1.000e-00 where it is 1 or more; 0.000e-00 where it is too small for the table of powers of ten, which
+    /// no end of a read is.
     pub fn decimal_down(self) -> Decimal {
         decimal(false, self)
     }
 
-    /// As an upper end in decimal: where it is below 1 never below it, and off by at most two in the last digit;
-    /// 1.000e-00 where it is 1 or more.
+    /// As an upper end in decimal: where it is below 1 never below it. An end of a read that is below 1 is off by at
+    /// most two in the last digit; 1.000e-00 where it is 1 or more; 1.000e-43 where it is too small for the table of
+    /// powers of ten, which no end of a read is, and 0.000e-00 for zero.
     pub fn decimal_up(self) -> Decimal {
         decimal(true, self)
     }

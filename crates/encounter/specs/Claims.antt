@@ -11,12 +11,13 @@ use Rattle.exact.specs.Private.Round.{round}
 use Rattle.exact.specs.Scaled.{IsRound, value, half, double}
 use Rattle.exact.specs.Series.{mirrored, u, g, h, X, Y, t, F, a₀, a, c, series, exponential, quotient}
 use Rattle.exact.specs.Steps.{same, letters, terms, powers, bound, alert, clear}
-use Rattle.exact.specs.Decimals.{decimal-of, Found, Printed}
+use Rattle.exact.specs.declared.Decimal.{Decimal}
+use Rattle.exact.specs.Decimals.{Printed, Found, Near}
 use Rattle.encounter.specs.declared.state.Session.{Session}
 use Rattle.encounter.specs.declared.state.Answer.{Answer}
 use Rattle.encounter.specs.declared.state.Class.{Class}
 use Rattle.encounter.specs.declared.state.Class.the-variants.{Clear, Alert}
-use Rattle.encounter.specs.Session.{state, falls-under}
+use Rattle.encounter.specs.Session.{state, falls-under, lower-decimal, upper-decimal}
 use Rattle.encounter.specs.Calls.{begins, adds, reads, call, Reached}
 use Rattle.encounter.specs.Stars.{stars, All}
 
@@ -51,12 +52,14 @@ pub record Classed (E : Encounter) (N : ℕ) (a : Answer) : Type 0 where
   pub quotient-alert : a .class ≡ Alert → (N′ K : ℕ) → N ≤ N′ → exponential-cut ≤ K → alert (quotient E N′ K) ≡ true
   pub quotient-clear : a .class ≡ Clear → (N′ K : ℕ) → N ≤ N′ → exponential-cut ≤ K → clear (quotient E N′ K) ≡ true
 
--- request #103, of an end x of an accepted read
-pub record PrintedEnd (up : Bool) (x : Scaled) : Type 0 where
+-- request #103, of an end x of an accepted read and its decimal d
+pub record PrintedEnd (up : Bool) (x : Scaled) (d : Decimal) : Type 0 where
   -- where x is below 1, a k up to 46 exists
   pub found : Found up x
-  -- and so its decimal has four significant digits, is on its side of x, and is off by at most two in the last digit
-  pub printed : Printed up x (decimal-of up x)
+  -- d is not above x (lower), or not below it while x is below 1 (upper)
+  pub printed : Printed up x d
+  -- d has four significant digits and, where x is below 1, is off by at most two in the last
+  pub near : Near x d
 
 pub record Claims : Type 0 where
   -- "D(q) is the greatest scaled number not above [..] q. U(q) is the least one not below it": round computes them, and there is no other
@@ -83,4 +86,7 @@ pub record Claims : Type 0 where
   pub lower-end-never-falls : {s s′ : Session} → OneEncounter s s′ → s .N ≤ s′ .N → value (call reads s .answer .lower) ≼ value (call reads s′ .answer .lower)
   pub alert-remains : {s s′ : Session} → OneEncounter s s′ → s .N ≤ s′ .N → call reads s .answer .class ≡ Alert → call reads s′ .answer .class ≡ Alert
   -- request #103: both ends of every accepted read in decimal
-  pub decimals : {s : Session} → Readable s → PrintedEnd false (call reads s .answer .lower) × PrintedEnd true (call reads s .answer .upper)
+  pub decimals :
+      {s : Session} →
+      Readable s →
+      PrintedEnd false (call reads s .answer .lower) (lower-decimal (call reads s .answer)) × PrintedEnd true (call reads s .answer .upper) (upper-decimal (call reads s .answer))

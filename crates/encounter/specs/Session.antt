@@ -1,10 +1,12 @@
--- Document 01, 'Script records': the session, empty and after a begin, and what is answered; the class by request #101 of document 02.
+-- Document 01, 'Script records': the session, empty and after a begin, and what is answered; the class by request #101 of document 02, the decimals by #103.
 use mathlib.Core.Bool.{Bool, true, false, cond, not, _&&_}
 use Prim.Native.Nat.{ℕ, pred}
 use lib.IntN.{pos}
 use Rattle.exact.specs.declared.Encounter.{Encounter}
 use Rattle.exact.specs.declared.Scaled.{Scaled}
+use Rattle.exact.specs.declared.Decimal.{Decimal}
 use Rattle.exact.specs.Scaled.{nought, value}
+use Rattle.exact.specs.Decimals.{decimal-of}
 use Rattle.exact.specs.Steps.{side-letters, side-terms, exponential-sum, r256, M, d, lower-end, upper-end, alert, clear}
 use Rattle.encounter.specs.declared.state.Side.{Side}
 use Rattle.encounter.specs.declared.state.Session.{Session}
@@ -68,6 +70,13 @@ falls-under lower upper Open = not (alert (value lower)) && not (clear (value up
 -- the class of two ends: the first of these that they fall under. The ends of an accepted read fall under no other (claim `classes`)
 unfoldable pub class-of : (lower upper : Scaled) → Class
 class-of lower upper = cond (falls-under lower upper Alert) Alert (cond (falls-under lower upper Clear) Clear Open)
+
+-- request #103: both ends of an answer in decimal
+unfoldable pub lower-decimal : Answer → Decimal
+lower-decimal a = decimal-of false (a .lower)
+
+unfoldable pub upper-decimal : Answer → Decimal
+upper-decimal a = decimal-of true (a .upper)
 
 -- an accepted read
 unfoldable pub bracket : Encounter → ℕ → Answer

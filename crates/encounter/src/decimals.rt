@@ -6,7 +6,7 @@ ghost use Rattle.exact.specs.declared.Scaled.{Scaled as Number};
 ghost use Rattle.exact.specs.Integer.{posPart};
 ghost use Rattle.exact.specs.Fraction.{_≈_};
 ghost use Rattle.exact.specs.Scaled.{value, Normal};
-ghost use Rattle.exact.specs.Decimals.{table-length, times-power, least-power, floor, digits-of, at-power, too-small, decimal-of, Printed};
+ghost use Rattle.exact.specs.Decimals.{table-length, times-power, least-power, floor, digits-of, at-power, too-small, decimal-of, Printed, Found, Near};
 ghost use Rattle.exact.specs.Private.Ranges.{InRange};
 ghost use Rattle.encounter.specs.Private.Loops.{narrow};
 
@@ -51,7 +51,7 @@ fn whole_part(p: Wide) -> u64
     m >> n
 }
 
-// For a number from 2^-(s+1) to below 2^-s: where to begin to look for the least power. 1233/4096 is just below the logarithm of 2.
+// For a number from 2^-(s+1) to below 2^-s: where to begin to look for the least power. 1233/4096 is just below the decimal logarithm of 2.
 fn first_power(s: u64) -> usize
     requires { ⌜ s ≤ 142 ⌝ }
     ensures { λ r. ⌜ r ≡ 3 + (s * 1233 + 4095) / 4096 ⌝ }
@@ -59,12 +59,13 @@ fn first_power(s: u64) -> usize
     (3 + (s * 1233 + 4095) / 4096) as usize
 }
 
-// The least power, and the whole part of the product that reaches 1,000 there.
+// The least power, or 47, and the whole part of the product that reaches 1,000 there.
 struct Reaching {
     k: usize,
     whole: u64,
 }
 
+// The least power of a number from 2^-(s+1) to below 2^-s.
 fn least_power_of(up: bool, x: Wide, s: u64) -> Reaching
     requires { ⌜ (Normal 32 (narrow x)) × (x .e ≡ pos 0 -ℤ pos (s + 32)) × (s ≤ 142) ⌝ }
     ensures { λ r. ⌜ (r .k ≡ least-power up (narrow x)) × (r .k < table-length → r .whole ≡ floor (value (times-power up (narrow x) (r .k)))) ⌝ }
@@ -131,7 +132,7 @@ fn below_the_table(up: bool) -> Decimal
     }
 }
 
-// A number from 2^-(s+1) to below 2^-s.
+// A number from 2^-(s+1) to below 2^-s, in decimal.
 fn below_one(up: bool, x: Wide, s: u64) -> Decimal
     requires { ⌜ (Normal 32 (narrow x)) × (x .e ≡ pos 0 -ℤ pos (s + 32)) × (s ≤ 142) ⌝ }
     ensures { λ r. ⌜ r ≡ decimal-of up (narrow x) ⌝ }
@@ -147,7 +148,7 @@ fn below_one(up: bool, x: Wide, s: u64) -> Decimal
 
 // x in decimal, as a lower end or, where up is true, as an upper one: four significant digits and a power of ten. It takes any m and e.
 pub fn to_decimal(up: bool, x: Scaled) -> Decimal
-    ensures { λ r. ⌜ (r ≡ decimal-of up x) × Printed up x r ⌝ }
+    ensures { λ r. ⌜ (r ≡ decimal-of up x) × Printed up x r × (Found up x → Near x r) ⌝ }
 {
     if x.m == 0 {
         return Decimal {
@@ -155,6 +156,7 @@ pub fn to_decimal(up: bool, x: Scaled) -> Decimal
             power: 0,
         };
     }
+    // y is x, with n bits below the point: it is 1 or more where n is at most 31, and below 2^-143, out of the table's reach, where n is above 174
     let y = normal(x);
     let n = gap(0, y.e);
     if n < 32 {

@@ -10,7 +10,7 @@ use native.Mathlib.Decide.{ℕ-discrete}
 use Rattle.exact.specs.declared.Scaled.{Scaled}
 use Rattle.exact.specs.Fraction.{_≼_, _≈_, whole, at-most, above}
 use Rattle.exact.specs.Scaled.{value}
-use Rattle.exact.specs.Decimals.{table-length, entry, times-power, reaches, least, least-power, floor, digits-of, at-power, one-or-more, nothing, smallest, too-small, below-1, decimal-of}
+use Rattle.exact.specs.Decimals.{table-length, entry, times-power, reaches, least, least-power, floor, digits-of, at-power, one-or-more, zero-decimal, least-decimal, too-small, below-1, decimal-of}
 use Rattle.exact.proofs.Fractions.{_≺_, lt-or-le, ≈-refl, mul-cong}
 use Rattle.exact.proofs.Order.{at-most-cong, above-holds}
 use Rattle.exact.proofs.Rounding.{round-cong}
@@ -49,11 +49,16 @@ at-power-carried k n l = rw (le-ltb n 10000 l)
 
 -- ---- a number that is too small, by cases
 
-pub small-lower : (up : Bool) (x : Scaled) → up ≡ false → nothing ≡ too-small up x
+pub small-zero : (up : Bool) (x : Scaled) → x .m ≡ 0 → zero-decimal ≡ too-small up x
+unfolding too-small
+small-zero false x z = refl
+small-zero true x z = rw (eq-eqb (x .m) 0 z)
+
+pub small-lower : (up : Bool) (x : Scaled) → up ≡ false → zero-decimal ≡ too-small up x
 unfolding too-small
 small-lower up x e = rw e
 
-pub small-upper : (up : Bool) (x : Scaled) → up ≡ true → 0 < x .m → smallest ≡ too-small up x
+pub small-upper : (up : Bool) (x : Scaled) → up ≡ true → 0 < x .m → least-decimal ≡ too-small up x
 unfolding too-small
 small-upper up x e p = rw (e, ne-eqb (x .m) 0 (λ z. omega (arith, z, p)))
 

@@ -20,6 +20,10 @@ use Rattle.exact.proofs.Least.{least-before, least-here}
 abbrev pub ε : Frac
 ε = slack 31
 
+-- (2^31 + 1)²: with 2^62 below it, ε ⊗ ε
+abbrev pub ε-square : ℕ
+ε-square = 4611686022722355201
+
 -- ---- the whole part
 
 pub floor-below : (q : Frac) → whole (floor q) ≼ q
@@ -95,8 +99,8 @@ module _ (up : Bool) (x : Scaled) where
   unfolding least-power
   here l = least-here (reaches up x) table-length l
 
--- a number below 2^-s, and a power that is too low for it; (2^31 + 1)² is 4,611,686,022,722,355,201
-pub too-low : (up : Bool) (x : Scaled) (s k : ℕ) → value x ⊗ whole (2 ^ s) ≺ whole 1 → 10 ^ k * 4611686022722355201 ≤ 1000 * 2 ^ s * 2 ^ 62 → reaches up x k ≡ false
+-- a number below 2^-s, and a power that is too low for it
+pub too-low : (up : Bool) (x : Scaled) (s k : ℕ) → value x ⊗ whole (2 ^ s) ≺ whole 1 → 10 ^ k * ε-square ≤ 1000 * 2 ^ s * 2 ^ 62 → reaches up x k ≡ false
 too-low up x s k h l = not-reached up x k (go (value x) h)
   where
     go : (q : Frac) → q ⊗ whole (2 ^ s) ≺ whole 1 → q ⊗ whole (10 ^ k) ⊗ ε ⊗ ε ≺ whole 1000

@@ -25,4 +25,5 @@ pub mod Tables
 pub mod Least
 pub mod DecimalProducts
 pub mod DecimalCases
+pub mod LastDigit
 pub mod Decimals

@@ -52,17 +52,18 @@ at-power k n = cond (ltb n 10000) (record { digits = n; power = k - 3 }) (record
 abbrev pub one-or-more : Decimal
 one-or-more = record { digits = 1000; power = 0 }
 
--- No end of an accepted read: a number for which the table has no k, which is below 10^-43 or next to it. Zero is 0.000e-00; another number is 0.000e-00 as a
--- lower one and 1.000e-43 as an upper one.
-abbrev pub nothing : Decimal
-nothing = record { digits = 0; power = 0 }
+-- 0.000e-00, and the least decimal above it, 1.000e-43
+abbrev pub zero-decimal : Decimal
+zero-decimal = record { digits = 0; power = 0 }
 
-abbrev pub smallest : Decimal
-smallest = record { digits = 1000; power = 43 }
+abbrev pub least-decimal : Decimal
+least-decimal = record { digits = 1000; power = 43 }
 
+-- A number for which the table has no k: no end of an accepted read, but any number below 10^-43, and some next to it. Zero is 0.000e-00; another one is 0.000e-00
+-- as a lower end and 1.000e-43 as an upper.
 unfoldable pub too-small : Bool → Scaled → Decimal
-too-small false x = nothing
-too-small true x = cond (eqb (x .m) 0) nothing smallest
+too-small false x = zero-decimal
+too-small true x = cond (eqb (x .m) 0) zero-decimal least-decimal
 
 -- whether x is below 1
 unfoldable pub below-1 : Scaled → Bool
@@ -84,19 +85,23 @@ worth d = d .digits over (10 ^ (d .power + 3))
 unfoldable pub two-units : Decimal → Frac
 two-units d = 2 over (10 ^ (d .power + 3))
 
--- the table has a power for x, where one is looked for; it has for every end of an accepted read (claim `decimals`, encounter/specs/Claims.antt)
-pub record Found (up : Bool) (x : Scaled) : Type 0 where
-  pub found : below-1 x ≡ true → least-power up x < table-length
-
--- of any number x, where d is x in decimal
+-- what holds of any number x, where d is x in decimal
 pub record Printed (up : Bool) (x : Scaled) (d : Decimal) : Type 0 where
   -- four digits, and a power of two digits
   pub few-digits : d .digits < 10000
   pub small-power : d .power ≤ 43
-  pub significant : Found up x → 1000 ≤ d .digits
   -- "A printed lower end is never above its end"
   pub lower : up ≡ false → worth d ≼ value x
   -- "a printed upper end below 1 never below it"
   pub upper : up ≡ true → below-1 x ≡ true → value x ≼ worth d
+
+-- the table has a power for x, where one is looked for
+pub record Found (up : Bool) (x : Scaled) : Type 0 where
+  pub found : below-1 x ≡ true → least-power up x < table-length
+
+-- what holds besides where it has one, as for every end of an accepted read (claim `decimals`, encounter/specs/Claims.antt)
+pub record Near (x : Scaled) (d : Decimal) : Type 0 where
+  -- "four significant digits"
+  pub significant : 1000 ≤ d .digits
   -- "each print of an end below 1 is off by at most two in the last digit"
-  pub close : Found up x → below-1 x ≡ true → (worth d ≼ value x ⊕ two-units d) × (value x ≼ worth d ⊕ two-units d)
+  pub close : below-1 x ≡ true → (worth d ≼ value x ⊕ two-units d) × (value x ≼ worth d ⊕ two-units d)

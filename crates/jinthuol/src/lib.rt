@@ -1,6 +1,6 @@
 // The library for programs in other languages: the calls of crate encounter and the listing of a script, under names of C.
 ghost use mathlib.Core.Path.{_≡_};
-ghost use Rattle.exact.specs.Decimals.{decimal-of, Printed};
+ghost use Rattle.exact.specs.Decimals.{decimal-of, Printed, Found, Near};
 ghost use Rattle.encounter.specs.Session.{empty as empty-session};
 ghost use Rattle.encounter.specs.Calls.{begins, adds, reads, call, Reached};
 ghost use Rattle.jinthuol.specs.Answer.{class-number, numbered, called};
@@ -140,7 +140,7 @@ pub extern "C" fn jinthuol_read(session: Session) -> Answer
 // A number in decimal, as a lower end or, where up is true, as an upper one.
 #[no_mangle]
 pub extern "C" fn jinthuol_to_decimal(up: bool, number: Scaled) -> Decimal
-    ensures { λ r. ⌜ (r ≡ decimal-of up number) × Printed up number r ⌝ }
+    ensures { λ r. ⌜ (r ≡ decimal-of up number) × Printed up number r × (Found up number → Near number r) ⌝ }
 {
     to_decimal(up, number)
 }

@@ -17,10 +17,11 @@ use Rattle.exact.proofs.Scaled.Laws as S′
 use Rattle.encounter.specs.declared.state.Class.{Class}
 use Rattle.encounter.specs.declared.state.Class.the-variants.{Clear, Alert, Open}
 use Rattle.encounter.specs.declared.state.Answer.{Answer}
+use Rattle.encounter.specs.Session.{lower-decimal, upper-decimal}
 use Rattle.encounter.proofs.state.Answer as A
 use Rattle.encounter.proofs.state.Answer.Laws as A′
-use Rattle.listing.specs.Line.{ascii, decimal, integer, scaled-text, class-text, ends-and-class, ends-in-decimal, read-text, taken-text, outcome-text, line, room}
-use Rattle.listing.proofs.Decimals.{decimal-10, decimal-20}
+use Rattle.listing.specs.Line.{ascii, number-text, integer, scaled-text, class-text, ends-and-class, ends-in-decimal, read-text, taken-text, outcome-text, line, room}
+use Rattle.listing.proofs.NumberTexts.{decimal-10, decimal-20}
 use Rattle.listing.proofs.EndsInDecimal.{nine}
 
 -- ---- what the types of the numbers say
@@ -62,10 +63,10 @@ either P false f g = g
 
 module _ (offset kind : ℕ) (a : Answer) (o : offset < 2 ^ 64) (r : AnswerRange a) where
   abbrev Short : List ℕ → Type 0
-  Short t = length (decimal offset ++ ascii " " ++ t ++ ascii "\n") ≤ room
+  Short t = length (number-text offset ++ ascii " " ++ t ++ ascii "\n") ≤ room
 
   short-read : Short (read-text a)
-  unfolding read-text ends-and-class scaled-text ends-in-decimal
+  unfolding read-text ends-and-class scaled-text ends-in-decimal lower-decimal upper-decimal
   short-read = simp length-append (omega (
     arith,
     decimal-20 offset o,

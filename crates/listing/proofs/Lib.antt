@@ -1,4 +1,4 @@
-pub mod Decimals
+pub mod NumberTexts
 pub mod EndsInDecimal
 pub mod Lengths
 pub mod Putting

@@ -4,10 +4,10 @@ use mathlib.Core.Path.{_≡_}
 use mathlib.Core.List.{_++_}
 use borrow.Author.Tests.{eq-eqb, ne-eqb}
 use Rattle.encounter.specs.declared.state.Answer.{Answer}
-use Rattle.listing.specs.Line.{ascii, decimal, read-text, taken-text, outcome-text}
+use Rattle.listing.specs.Line.{ascii, number-text, read-text, taken-text, outcome-text}
 
 module _ (kind : ℕ) (a : Answer) where
-  pub refused-is : (a .refusal ≡ 0 → ⊥) → ascii "refused " ++ decimal (a .refusal) ≡ outcome-text kind a
+  pub refused-is : (a .refusal ≡ 0 → ⊥) → ascii "refused " ++ number-text (a .refusal) ≡ outcome-text kind a
   unfolding outcome-text
   refused-is h = rw (ne-eqb (a .refusal) 0 h)
 
@@ -15,7 +15,7 @@ module _ (kind : ℕ) (a : Answer) where
   unfolding outcome-text taken-text
   begun-is h k = rw (eq-eqb (a .refusal) 0 h, eq-eqb kind 1 k)
 
-  pub added-is : a .refusal ≡ 0 → (kind ≡ 1 → ⊥) → kind ≡ 2 → ascii "added " ++ decimal (a .N) ≡ outcome-text kind a
+  pub added-is : a .refusal ≡ 0 → (kind ≡ 1 → ⊥) → kind ≡ 2 → ascii "added " ++ number-text (a .N) ≡ outcome-text kind a
   unfolding outcome-text taken-text
   added-is h j k = rw (eq-eqb (a .refusal) 0 h, ne-eqb kind 1 j, eq-eqb kind 2 k)
 

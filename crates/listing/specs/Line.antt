@@ -2,16 +2,16 @@
 use Prim.Native.Nat.{ℕ, zero, suc, _+_, _/_, _%_}
 use Prim.Native.Char.{code}
 use Prim.Native.String.{String, [] as none, _∷_ as _then_}
-use mathlib.Core.Bool.{true, false, cond}
+use mathlib.Core.Bool.{cond}
 use mathlib.Core.List.{List, [], _∷_, _++_}
 use lib.Dec.{ltb, eqb}
 use lib.IntN.{ℤ, pos, negsuc}
 use Rattle.exact.specs.declared.Scaled.{Scaled}
 use Rattle.exact.specs.declared.Decimal.{Decimal}
-use Rattle.exact.specs.Decimals.{decimal-of}
 use Rattle.encounter.specs.declared.state.Class.{Class}
 use Rattle.encounter.specs.declared.state.Class.the-variants.{Clear, Alert, Open}
 use Rattle.encounter.specs.declared.state.Answer.{Answer}
+use Rattle.encounter.specs.Session.{lower-decimal, upper-decimal}
 
 -- the bytes of a text, all of whose characters are ASCII
 abbrev pub ascii : String → List ℕ
@@ -28,17 +28,17 @@ unfoldable pub decimal-digits : ℕ → ℕ → List ℕ
 decimal-digits zero n = []
 decimal-digits (suc k) n = cond (ltb n 10) [] (decimal-digits k (n / 10)) ++ (last-digit n ∷ [])
 
-unfoldable pub decimal : ℕ → List ℕ
-decimal n = decimal-digits (suc n) n
+unfoldable pub number-text : ℕ → List ℕ
+number-text n = decimal-digits (suc n) n
 
 -- "a negative e has a minus sign before it"
 unfoldable pub integer : ℤ → List ℕ
-integer (pos n) = decimal n
-integer (negsuc n) = ascii "-" ++ decimal (suc n)
+integer (pos n) = number-text n
+integer (negsuc n) = ascii "-" ++ number-text (suc n)
 
 -- "m and e"
 unfoldable pub scaled-text : Scaled → List ℕ
-scaled-text x = decimal (x .m) ++ ascii " " ++ integer (x .e)
+scaled-text x = number-text (x .m) ++ ascii " " ++ integer (x .e)
 
 -- "`alert` or `clear`", and by request #101 "`open`, printed in the class field"
 unfoldable pub class-text : Class → List ℕ
@@ -58,24 +58,24 @@ decimal-text d =
 
 -- request #103: "each end as four significant digits and a power of ten", the lower end and then the upper
 unfoldable pub ends-in-decimal : Answer → List ℕ
-ends-in-decimal a = decimal-text (decimal-of false (a .lower)) ++ ascii " " ++ decimal-text (decimal-of true (a .upper))
+ends-in-decimal a = decimal-text (lower-decimal a) ++ ascii " " ++ decimal-text (upper-decimal a)
 
 -- "`read N ml el mh eh class`", and "at the line's end" what request #103 adds
 unfoldable pub read-text : Answer → List ℕ
-read-text a = ascii "read " ++ decimal (a .N) ++ ascii " " ++ ends-and-class a ++ ascii " " ++ ends-in-decimal a
+read-text a = ascii "read " ++ number-text (a .N) ++ ascii " " ++ ends-and-class a ++ ascii " " ++ ends-in-decimal a
 
 -- "`begun 1`, `added N` (the order after the add), [..] or `read N ml el mh eh class`": by the kind byte, 1 of a begin, 2 of an add and any other of a
 -- read
 unfoldable pub taken-text : ℕ → Answer → List ℕ
-taken-text kind a = cond (eqb kind 1) (ascii "begun 1") (cond (eqb kind 2) (ascii "added " ++ decimal (a .N)) (read-text a))
+taken-text kind a = cond (eqb kind 1) (ascii "begun 1") (cond (eqb kind 2) (ascii "added " ++ number-text (a .N)) (read-text a))
 
 -- "`refused r`" where the record was refused
 unfoldable pub outcome-text : ℕ → Answer → List ℕ
-outcome-text kind a = cond (eqb (a .refusal) 0) (taken-text kind a) (ascii "refused " ++ decimal (a .refusal))
+outcome-text kind a = cond (eqb (a .refusal) 0) (taken-text kind a) (ascii "refused " ++ number-text (a .refusal))
 
 -- "One line a record: decimal offset of its kind byte, then `begun 1`, `added N` (the order after the add), `refused r`, or `read N ml el mh eh class`"
 unfoldable pub line : (offset kind : ℕ) → Answer → List ℕ
-line offset kind a = decimal offset ++ ascii " " ++ outcome-text kind a ++ ascii "\n"
+line offset kind a = number-text offset ++ ascii " " ++ outcome-text kind a ++ ascii "\n"
 
 -- the bytes that put_line asks for, from the line's first index on, whatever the line; no line has more
 abbrev pub room : ℕ

@@ -3,7 +3,7 @@ ghost use mathlib.Core.Path.{_≡_};
 ghost use mathlib.Core.List.{_++_};
 ghost use lib.IntN.{natAbs};
 ghost use Rattle.exact.specs.Decimals.{decimal-of};
-ghost use Rattle.listing.specs.Line.{decimal, integer, scaled-text, class-text, ends-and-class, last-digit, decimal-text, ends-in-decimal, read-text, outcome-text, line};
+ghost use Rattle.listing.specs.Line.{number-text, integer, scaled-text, class-text, ends-and-class, last-digit, decimal-text, ends-in-decimal, read-text, outcome-text, line};
 ghost use Rattle.listing.specs.Put.{RoomFor, Put, PutLine};
 
 pub mod script;
@@ -29,28 +29,28 @@ fn put(out: &mut [u8], at: usize, text: &[u8]) -> usize
     at + i
 }
 
-// x, in decimal.
+// The digits of x.
 fn put_number(out: &mut [u8], at: usize, x: u64) -> usize
-    requires { ⌜ RoomFor (now out) at (decimal x) ⌝ }
-    ensures { λ r. ⌜ Put (now (out .entry)) (now (out .exit)) at (decimal x) r ⌝ }
+    requires { ⌜ RoomFor (now out) at (number-text x) ⌝ }
+    ensures { λ r. ⌜ Put (now (out .entry)) (now (out .exit)) at (number-text x) r ⌝ }
 {
     let mut d = [0u8; 20];
     let k = io::decimal(x, &mut d);
     put(out, at, &d[..k])
 }
 
-// x, in decimal.
+// The digits of x.
 fn put_word(out: &mut [u8], at: usize, x: u32) -> usize
-    requires { ⌜ RoomFor (now out) at (decimal x) ⌝ }
-    ensures { λ r. ⌜ Put (now (out .entry)) (now (out .exit)) at (decimal x) r ⌝ }
+    requires { ⌜ RoomFor (now out) at (number-text x) ⌝ }
+    ensures { λ r. ⌜ Put (now (out .entry)) (now (out .exit)) at (number-text x) r ⌝ }
 {
     put_number(out, at, x as u64)
 }
 
-// The bytes of text, then x in decimal.
+// The bytes of text, then the digits of x.
 fn put_and_word(out: &mut [u8], at: usize, text: &[u8], x: u32) -> usize
-    requires { ⌜ RoomFor (now out) at (now text ++ decimal x) ⌝ }
-    ensures { λ r. ⌜ Put (now (out .entry)) (now (out .exit)) at (now (text .entry) ++ decimal x) r ⌝ }
+    requires { ⌜ RoomFor (now out) at (now text ++ number-text x) ⌝ }
+    ensures { λ r. ⌜ Put (now (out .entry)) (now (out .exit)) at (now (text .entry) ++ number-text x) r ⌝ }
 {
     let k = put(out, at, text);
     put_word(out, k, x)

@@ -1,23 +1,22 @@
 -- The decimal of a number, by the cases of the code.
 use mathlib.Core.Path.{_≡_, refl, sym, _∙_}
-use mathlib.Core.Bool.{Bool, true, false}
+use mathlib.Core.Bool.{Bool, true}
 use Prim.Native.Nat.{ℕ, _+_, _-_, _^_, _≤_, _<_}
 use native.Mathlib.Nat.{mul-le-mul-left}
 use native.Mathlib.Omega.{arith}
 use lib.IntN.{ℤ, pos, negsuc, _-ℤ_}
 use lib.Pow.{pow-mono, pow-pos}
-use borrow.Author.Tests.{eq-eqb}
 use Rattle.exact.specs.declared.Scaled.{Scaled}
 use Rattle.exact.specs.declared.Decimal.{Decimal}
 use Rattle.exact.specs.Integer.{posPart, negPart}
 use Rattle.exact.specs.Fraction.{Frac, _≼_, _≈_, _⊗_, whole}
 use Rattle.exact.specs.Scaled.{value, Normal}
-use Rattle.exact.specs.Decimals.{table-length, times-power, least-power, floor, digits-of, at-power, one-or-more, nothing, too-small, below-1, decimal-of, Printed}
+use Rattle.exact.specs.Decimals.{table-length, times-power, least-power, floor, digits-of, at-power, one-or-more, zero-decimal, too-small, below-1, decimal-of, Printed, Found, Near}
 use Rattle.exact.proofs.Fractions.{_≺_, ≼-refl, ≼-trans, ≼-≺, ≼-of-≺, ≼-of, ≽-of, mul-mono}
 use Rattle.exact.proofs.Order.{above-yes, above-no}
 use Rattle.exact.proofs.Integers.{balanced, pos-diff, neg-diff}
-use Rattle.exact.proofs.DecimalCases.{is-one, is-found, is-small, low-power, whole-most, digits-most, digits-high, decimal-same}
-use Rattle.exact.proofs.Decimals.{printed}
+use Rattle.exact.proofs.DecimalCases.{is-one, is-found, is-small, low-power, whole-most, digits-most, digits-high, small-zero, decimal-same}
+use Rattle.exact.proofs.Decimals.{printed, near}
 use Rattle.encounter.proofs.decimals.Searching.{below-power, none-reaches}
 use Rattle.encounter.proofs.decimals.Wholes.{depth}
 
@@ -53,8 +52,8 @@ module _ (up : Bool) (x : Scaled) (b : value x ≺ whole 1) where
         found-is f = f ∙ rw (d, whole-is, e) (sym (is-found up x is-below found))
 
 -- the answer with its promises
-pub with-promises : (up : Bool) (x : Scaled) {r : Decimal} → r ≡ decimal-of up x → (r ≡ decimal-of up x) × Printed up x r
-with-promises up x e = (e, rw e (printed up x))
+pub with-promises : (up : Bool) (x : Scaled) {r : Decimal} → r ≡ decimal-of up x → (r ≡ decimal-of up x) × Printed up x r × (Found up x → Near x r)
+with-promises up x e = (e, rw e (printed up x), rw e (near up x))
 
 -- zero
 module _ (up : Bool) (x : Scaled) (z : x .m ≡ 0) where
@@ -62,13 +61,8 @@ module _ (up : Bool) (x : Scaled) (z : x .m ≡ 0) where
   unfolding value whole _⊗_
   nothing-of n = record { lt = rw z (omega (arith, pow-pos (negPart (x .e)))) }
 
-  zero-small : (up : Bool) → nothing ≡ too-small up x
-  unfolding too-small
-  zero-small false = refl
-  zero-small true = rw (eq-eqb (x .m) 0 z)
-
-  pub zero-is : nothing ≡ decimal-of up x
-  zero-is = zero-small up ∙ sym (is-small up x (is-below up x (unit (nothing-of 1))) (rw (none-reaches up x (nothing-of (2 ^ 143))) (omega arith)))
+  pub zero-is : zero-decimal ≡ decimal-of up x
+  zero-is = small-zero up x z ∙ sym (is-small up x (is-below up x (unit (nothing-of 1))) (rw (none-reaches up x (nothing-of (2 ^ 143))) (omega arith)))
 
 -- a number that is not zero, of the value of y, whose mantissa has 32 bits and whose fraction n
 module _ (up : Bool) (x y : Scaled) (n : ℕ) (f : Normal 32 y) (h : value y ≈ value x) (e : n ≡ posPart (pos 0 -ℤ y .e)) where

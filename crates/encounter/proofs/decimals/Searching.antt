@@ -22,7 +22,7 @@ use Rattle.exact.proofs.Ranges.{widen, product-range, fraction-range}
 use Rattle.exact.proofs.Rounding.{round-is}
 use Rattle.exact.proofs.Tables.{table, agree}
 use Rattle.exact.proofs.Least.{least-is}
-use Rattle.exact.proofs.DecimalProducts.{ordered, too-low, under, floor-least, floor-below, reached}
+use Rattle.exact.proofs.DecimalProducts.{ε-square, ordered, too-low, under, floor-least, floor-below, reached}
 use Rattle.encounter.proofs.decimals.Wholes.{flat}
 
 -- ---- where it begins
@@ -34,24 +34,32 @@ below-power x s h z l =
     let w : 2 ^ s * 2 ^ 32 ≤ 2 ^ negPart (x .e) = rw (← pow-add 2 s 32) (pow-mono l) in
     record { lt = rw z (omega (arith, w, mul-lt-mul-of-pos-right h (pow-pos s))) }
 
--- the power before the first one that is tried is too low, for each s: one computation
-enough : table (λ s. leb (10 ^ (2 + (s * 1233 + 4095) / 4096) * 4611686022722355201) (1000 * 2 ^ s * 2 ^ 62)) 143 ≡ table (λ s. true) 143
-enough = refl
-
+-- the first power that is tried, and the one before it
 abbrev pub first : ℕ → ℕ
 first s = 3 + (s * 1233 + 4095) / 4096
 
-first-low : (s k : ℕ) → s < 143 → k < first s → 10 ^ k * 4611686022722355201 ≤ 1000 * 2 ^ s * 2 ^ 62
+abbrev before : ℕ → ℕ
+before s = 2 + (s * 1233 + 4095) / 4096
+
+-- the power before is too low, for each s: one computation
+abbrev low : ℕ → Bool
+low s = leb (10 ^ before s * ε-square) (1000 * 2 ^ s * 2 ^ 62)
+
+enough : table low 143 ≡ table (λ s. true) 143
+enough = refl
+
+-- a power that is not above one that is too low
+lower : {j k n : ℕ} → j ≤ k → 10 ^ k * ε-square ≤ n → 10 ^ j * ε-square ≤ n
+lower l h = le-trans (mul-le-mul-right ε-square (pow-le-pow-right {n = 10} (lit< tt) l)) h
+
+first-low : (s k : ℕ) → s < 143 → k < first s → 10 ^ k * ε-square ≤ 1000 * 2 ^ s * 2 ^ 62
 first-low s k l h =
-    let w : k ≤ 2 + (s * 1233 + 4095) / 4096 = omega arith in
-    le-trans (mul-le-mul-right 4611686022722355201 (pow-le-pow-right {n = 10} (lit< tt) w))
-    (leb→le _ _ (subst T (sym (agree (λ s. leb (10 ^ (2 + (s * 1233 + 4095) / 4096) * 4611686022722355201) (1000 * 2 ^ s * 2 ^ 62)) (λ s. true) 143 enough s l)) tt))
+    let w : k ≤ before s = omega arith in
+    lower w (leb→le _ _ (subst T (sym (agree low (λ s. true) 143 enough s l)) tt))
 
 -- none of the table's powers is high enough below 2^-143
-last-low : (k : ℕ) → k < table-length → 10 ^ k * 4611686022722355201 ≤ 1000 * 2 ^ 143 * 2 ^ 62
-last-low k l =
-    let w : k ≤ 46 = omega arith in
-    le-trans (mul-le-mul-right 4611686022722355201 (pow-le-pow-right {n = 10} (lit< tt) w)) (lit≤ tt)
+last-low : (k : ℕ) → k < table-length → 10 ^ k * ε-square ≤ 1000 * 2 ^ 143 * 2 ^ 62
+last-low k l = let w : k ≤ 46 = omega arith in lower w (lit≤ tt)
 
 module _ (up : Bool) (x : Scaled) where
   -- a number with a mantissa of 32 bits and the exponent −(s + 32)

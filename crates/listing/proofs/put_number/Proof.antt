@@ -1,5 +1,5 @@
 use native.Mathlib.Omega.{arith}
-use Rattle.listing.proofs.Decimals.{digits-decimal}
+use Rattle.listing.proofs.NumberTexts.{digits-decimal}
 use Rattle.listing.proofs.Putting.{renamed}
 use borrow.Author.Needs.{needs}
 use mathlib.Core.Path.{_∙_, ap}

@@ -9,7 +9,7 @@ use lib.Dec.{ltb}
 use borrow.Author.Tests.{lt-ltb, le-ltb, ltb-true, ltb-false}
 use lib.ListN.{length, length-append}
 use Rattle.io.specs.Digits.{digits, glyph, Fewest}
-use Rattle.listing.specs.Line.{decimal, decimal-digits}
+use Rattle.listing.specs.Line.{number-text, decimal-digits}
 
 last : (x : ℕ) → glyph (x % 10) ≡ 48 + x % 10
 last x = rw (lt-ltb (x % 10) 10 (omega arith))
@@ -33,8 +33,8 @@ digits-are (suc f) (suc k) x h u g =
     let again = digits-are f k (x / 10) (omega arith) (omega arith) (λ i. omega arith) in
     rw (more f x (omega arith), last x) (ap (λ (l : List ℕ). l ++ ((48 + x % 10) ∷ [])) again)
 
-pub digits-decimal : (x k : ℕ) → Fewest 10 1 x k → digits 10 k x ≡ decimal x
-unfolding decimal
+pub digits-decimal : (x k : ℕ) → Fewest 10 1 x k → digits 10 k x ≡ number-text x
+unfolding number-text
 digits-decimal x zero f = absurd (omega (arith, f .0))
 digits-decimal x (suc k) f =
     let e : suc k - 1 ≡ k = omega arith in
@@ -63,10 +63,10 @@ short (suc f) (suc n) x h p = by (λ m. short f m (x / 10)) (ltb x 10) refl
     by g true e = rw (one f x (ltb-true x 10 e)) (omega arith)
     by g false e = let low : 10 ≤ x = ltb-false x 10 e in rw (more f x low, length-append) (longer f n x g h low)
 
-pub decimal-20 : (x : ℕ) → x < 2 ^ 64 → length (decimal x) ≤ 20
-unfolding decimal
+pub decimal-20 : (x : ℕ) → x < 2 ^ 64 → length (number-text x) ≤ 20
+unfolding number-text
 decimal-20 x h = short (suc x) 20 x (omega arith) (omega arith)
 
-pub decimal-10 : (x : ℕ) → x < 2 ^ 32 → length (decimal x) ≤ 10
-unfolding decimal
+pub decimal-10 : (x : ℕ) → x < 2 ^ 32 → length (number-text x) ≤ 10
+unfolding number-text
 decimal-10 x h = short (suc x) 10 x (omega arith) (omega arith)
