@@ -87,19 +87,6 @@ def run(folder, cases):
     return first, "%d × 2^%d as %s end\n%s" % (*x, "an upper" if up else "a lower", text)
 
 
-def differences(folder, cases):
-    """A text on each case that differs."""
-    at = 0
-    while at < len(cases):
-        found = run(folder, cases[at : at + BATCH])
-        if found is None:
-            at += BATCH
-        else:
-            first, text = found
-            at += first + 1
-            yield text
-
-
 def main():
     options = scratch.arguments("Compares the decimals of crate encounter with decimals.py.")
     print("digits: seed %d" % options.seed)
@@ -110,7 +97,8 @@ def main():
     with tempfile.TemporaryDirectory() as name:
         folder = pathlib.Path(name)
         scratch.repository(options.root, folder, drivers.DECIMALS)
-        found = list(itertools.islice(differences(folder, cases), SHOWN))
+        found = scratch.differences(cases, BATCH, lambda part: run(folder, part))
+        found = list(itertools.islice(found, SHOWN))
     if found:
         print("\n".join(found))
         print("digits: these numbers differ, and perhaps later ones")

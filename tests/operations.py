@@ -273,9 +273,9 @@ def shown(x):
     return str(tuple(x)) if isinstance(x, Scaled) else str(x)
 
 
-def run(folder, cases, answers):
+def run(folder, cases):
     """Runs the cases. Gives the index of the first one that differs, with a text on it, or None."""
-    lines = list(map(drivers.line, answers))
+    lines = [drivers.line(expected(case)) for case in cases]
     ways = scratch.run(folder, b"".join(map(record, cases)), "".join(lines))
     if not ways:
         return None
@@ -285,29 +285,15 @@ def run(folder, cases, answers):
     return first, "%s%s %s %s\n%s" % (case.kind, direction, shown(case.x), shown(case.y), text)
 
 
-def differences(folder, cases, answers):
-    """A text on each case that differs."""
-    at = 0
-    while at < len(cases):
-        end = at + BATCH
-        found = run(folder, cases[at:end], answers[at:end])
-        if found is None:
-            at = end
-        else:
-            first, text = found
-            at += first + 1
-            yield text
-
-
 def main():
     options = scratch.arguments("Compares the arithmetic of crate encounter with scaled.py.")
     print("operations: seed %d" % options.seed)
     cases = all_cases(options.seed)
-    answers = list(map(expected, cases))
     with tempfile.TemporaryDirectory() as name:
         folder = pathlib.Path(name)
         scratch.repository(options.root, folder, drivers.OPERATIONS)
-        found = list(itertools.islice(differences(folder, cases, answers), SHOWN))
+        found = scratch.differences(cases, BATCH, lambda part: run(folder, part))
+        found = list(itertools.islice(found, SHOWN))
     if found:
         print("\n".join(found))
         print("operations: these cases differ, and perhaps later ones")

@@ -98,6 +98,19 @@ def agrees(way, length):
     return way.end == "ended" and way.at == length
 
 
+def differences(cases, batch, run):
+    """A text on each case that differs: run gives, for some cases, the index of the first one with its text, or None."""
+    at = 0
+    while at < len(cases):
+        found = run(cases[at : at + batch])
+        if found is None:
+            at += batch
+        else:
+            first, text = found
+            at += first + 1
+            yield text
+
+
 def report(ways, fields, lines):
     """For ways that differ: the index of the first line that does, and a text on its first field that does.
 

@@ -59,8 +59,8 @@ zero-decimal = record { digits = 0; power = 0 }
 abbrev pub least-decimal : Decimal
 least-decimal = record { digits = 1000; power = 43 }
 
--- A number for which the table has no k: no end of an accepted read, but any number below 10^-43, and some next to it. Zero is 0.000e-00; another one is 0.000e-00
--- as a lower end and 1.000e-43 as an upper.
+-- A number for which the table has no k, which is below 10^-43 or next to it, and no end of an accepted read. Zero is 0.000e-00; another one is 0.000e-00 as a
+-- lower end and 1.000e-43 as an upper.
 unfoldable pub too-small : Bool → Scaled → Decimal
 too-small false x = zero-decimal
 too-small true x = cond (eqb (x .m) 0) zero-decimal least-decimal
