@@ -4,15 +4,13 @@
     python3 tests/digits.py [--root FOLDER] [--seed N]
 
 The numbers are those of ends.py, each as a lower and as an upper end; every power that is printed and every k that a
-number below 1 can have is among them. scratch.py runs a program that asks for each: compiled, and on the interpreter as far as it gets.
+number below 1 can have is among them. scratch.py runs a program that asks for each: compiled, and on the interpreter
+as far as it gets.
 """
 
-import itertools
-import pathlib
 import random
 import struct
 import sys
-import tempfile
 from typing import NamedTuple
 
 sys.dont_write_bytecode = True
@@ -27,8 +25,6 @@ from scaled import Scaled
 FIELDS = [("digits", False), ("power", False)]
 # The cases of one run.
 BATCH = scratch.MOST_WRITTEN // drivers.line_length(FIELDS)
-# How many differing cases are printed.
-SHOWN = 5
 
 
 class Case(NamedTuple):
@@ -94,15 +90,7 @@ def main():
     shown, due = {what for case in cases for what in shown_by(case)}, KS | POWERS | OTHERS
     if shown != due:
         sys.exit("digits: what no case has, or none may have: %s" % sorted(shown ^ due, key=str))
-    with tempfile.TemporaryDirectory() as name:
-        folder = pathlib.Path(name)
-        scratch.repository(options.root, folder, drivers.DECIMALS)
-        found = scratch.differences(cases, BATCH, lambda part: run(folder, part))
-        found = list(itertools.islice(found, SHOWN))
-    if found:
-        print("\n".join(found))
-        print("digits: these numbers differ, and perhaps later ones")
-        sys.exit(1)
+    scratch.compare("digits", options.root, drivers.DECIMALS, cases, BATCH, run)
     print("digits: %d decimals agree" % len(cases))
 
 

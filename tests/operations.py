@@ -8,11 +8,9 @@ program there, interpreted and compiled, that answers each case.
 """
 
 import itertools
-import pathlib
 import random
 import struct
 import sys
-import tempfile
 from fractions import Fraction
 from typing import NamedTuple
 
@@ -27,8 +25,6 @@ from scaled import LEAST, LIMIT, ZERO, Scaled
 
 # The cases of one run; the interpreter takes about 1,000 steps for one.
 BATCH = scratch.MOST_STEPS // 2000
-# How many differing cases are printed.
-SHOWN = 5
 # The numbers of a line.
 FIELDS = [("m", False), ("e", True)]
 
@@ -289,15 +285,7 @@ def main():
     options = scratch.arguments("Compares the arithmetic of crate encounter with scaled.py.")
     print("operations: seed %d" % options.seed)
     cases = all_cases(options.seed)
-    with tempfile.TemporaryDirectory() as name:
-        folder = pathlib.Path(name)
-        scratch.repository(options.root, folder, drivers.OPERATIONS)
-        found = scratch.differences(cases, BATCH, lambda part: run(folder, part))
-        found = list(itertools.islice(found, SHOWN))
-    if found:
-        print("\n".join(found))
-        print("operations: these cases differ, and perhaps later ones")
-        sys.exit(1)
+    scratch.compare("operations", options.root, drivers.OPERATIONS, cases, BATCH, run)
     print("operations: %d cases agree" % len(cases))
 
 

@@ -5,15 +5,20 @@ that on the interpreter, compiled at -O0 and at -O3, and compiled with the compi
 compares the program's lines with those that are expected.
 """
 
+import itertools
 import pathlib
 import re
 import shutil
 import subprocess
 import sys
+import tempfile
 from typing import NamedTuple
 
 import options
 from drivers import WIDTH, WORDS, line_length, number
+
+# How many differing cases are printed.
+SHOWN = 5
 
 
 def arguments(description):
@@ -99,7 +104,7 @@ def agrees(way, length):
 
 
 def differences(cases, batch, run):
-    """A text on each case that differs: run gives, for some cases, the index of the first one with its text, or None."""
+    """A text on each case that differs."""
     at = 0
     while at < len(cases):
         found = run(cases[at : at + batch])
@@ -109,6 +114,20 @@ def differences(cases, batch, run):
             first, text = found
             at += first + 1
             yield text
+
+
+def compare(name, root, program, cases, batch, run):
+    """Runs the cases, so many at a time. Exits with 1 where some differ, and prints a text on the first of them.
+
+    run takes the folder and some cases and gives the index of the first one that differs, with its text, or None.
+    """
+    with tempfile.TemporaryDirectory() as folder:
+        folder = pathlib.Path(folder)
+        repository(root, folder, program)
+        found = list(itertools.islice(differences(cases, batch, lambda part: run(folder, part)), SHOWN))
+    if found:
+        print("\n".join(found))
+        sys.exit("%s: these cases differ, and perhaps later ones" % name)
 
 
 def report(ways, fields, lines):

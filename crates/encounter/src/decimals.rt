@@ -1,14 +1,14 @@
 // A scaled number as four significant digits and a power of ten (request #103 of document 02).
 ghost use mathlib.Core.Path.{_≡_};
-ghost use Prim.Native.Nat.{_+_, _*_, _/_, _^_, _≤_, _<_};
-ghost use lib.IntN.{pos, _-ℤ_};
+ghost use mathlib.Core.Bool.{false};
+ghost use Prim.Native.Nat.{pred, _+_, _*_, _/_, _^_, _≤_, _<_};
 ghost use Rattle.exact.specs.declared.Scaled.{Scaled as Number};
 ghost use Rattle.exact.specs.Integer.{posPart};
 ghost use Rattle.exact.specs.Fraction.{_≈_};
 ghost use Rattle.exact.specs.Scaled.{value, Normal};
-ghost use Rattle.exact.specs.Decimals.{table-length, times-power, least-power, floor, digits-of, at-power, too-small, decimal-of, Printed, Found, Near};
+ghost use Rattle.exact.specs.Decimals.{table-length, times-power, reaches, least-power, floor, digits-of, at-power, too-small, decimal-of, Printed, Found, Near};
 ghost use Rattle.exact.specs.Private.Ranges.{InRange};
-ghost use Rattle.encounter.specs.Private.Loops.{narrow};
+ghost use Rattle.encounter.specs.Private.Loops.{narrow, InBinade};
 
 mod tens;
 
@@ -21,7 +21,7 @@ use crate::decimals::tens::power_of_ten;
 use exact::Decimal;
 use exact::Scaled;
 
-// The entries of the table.
+// How many entries the table has.
 const POWERS: usize = 47;
 
 // x with a mantissa of 32 bits, for an x that is not zero.
@@ -51,6 +51,15 @@ fn whole_part(p: Wide) -> u64
     m >> n
 }
 
+// The whole part of x times the table's 10^k, where the power before does not reach 1,000.
+fn whole_at(up: bool, x: Wide, k: usize) -> u64
+    requires { ⌜ (InRange 32 174 (narrow x)) × (0 < k) × (k < table-length) × (reaches up (narrow x) (pred k) ≡ false) ⌝ }
+    ensures { λ r. ⌜ r ≡ floor (value (times-power up (narrow x) k)) ⌝ }
+{
+    let p = product(up, x, widen(power_of_ten(up, k)));
+    whole_part(p)
+}
+
 // For a number from 2^-(s+1) to below 2^-s: where to begin to look for the least power. 1233/4096 is just below the decimal logarithm of 2.
 fn first_power(s: u64) -> usize
     requires { ⌜ s ≤ 142 ⌝ }
@@ -67,13 +76,12 @@ struct Reaching {
 
 // The least power of a number from 2^-(s+1) to below 2^-s.
 fn least_power_of(up: bool, x: Wide, s: u64) -> Reaching
-    requires { ⌜ (Normal 32 (narrow x)) × (x .e ≡ pos 0 -ℤ pos (s + 32)) × (s ≤ 142) ⌝ }
+    requires { ⌜ InBinade s (narrow x) ⌝ }
     ensures { λ r. ⌜ (r .k ≡ least-power up (narrow x)) × (r .k < table-length → r .whole ≡ floor (value (times-power up (narrow x) (r .k)))) ⌝ }
 {
     let mut k = first_power(s);
     while k < POWERS {
-        let p = product(up, x, widen(power_of_ten(up, k)));
-        let whole = whole_part(p);
+        let whole = whole_at(up, x, k);
         if 1000 <= whole {
             return Reaching { k, whole };
         }
@@ -134,7 +142,7 @@ fn below_the_table(up: bool) -> Decimal
 
 // A number from 2^-(s+1) to below 2^-s, in decimal.
 fn below_one(up: bool, x: Wide, s: u64) -> Decimal
-    requires { ⌜ (Normal 32 (narrow x)) × (x .e ≡ pos 0 -ℤ pos (s + 32)) × (s ≤ 142) ⌝ }
+    requires { ⌜ InBinade s (narrow x) ⌝ }
     ensures { λ r. ⌜ r ≡ decimal-of up (narrow x) ⌝ }
 {
     let r = least_power_of(up, x, s);

@@ -1,5 +1,5 @@
 // The library: one encounter at a time, answered by a bracket of its collision probability. Three floors: the arithmetic on scaled numbers and the rounded
-// steps are private, the calls public.
+// steps are private, the calls public. Beside the calls, numbers in decimal.
 mod arithmetic;
 pub mod calls;
 pub mod decimals;

@@ -44,7 +44,7 @@ unfoldable pub digits-of : Bool → ℕ → ℕ
 digits-of false w = cond (eqb w 10000) 9999 w
 digits-of true w = suc w
 
--- four digits n at the power k: "d.ddd, then `e-` and k − 3"; "10,000 prints as 1.000 and 10,001 as 1.001, with the power one higher"
+-- the digits n at the power k: "d.ddd, then `e-` and k − 3"; "10,000 prints as 1.000 and 10,001 as 1.001, with the power one higher"
 unfoldable pub at-power : (k n : ℕ) → Decimal
 at-power k n = cond (ltb n 10000) (record { digits = n; power = k - 3 }) (record { digits = n - 9000; power = k - 4 })
 

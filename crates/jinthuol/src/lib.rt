@@ -1,4 +1,4 @@
-// The library for programs in other languages: the calls of crate encounter and the listing of a script, under names of C.
+// The library for programs in other languages: the calls of crate encounter, numbers in decimal and the listing of a script, under names of C.
 ghost use mathlib.Core.Path.{_≡_};
 ghost use Rattle.exact.specs.Decimals.{decimal-of, Printed, Found, Near};
 ghost use Rattle.encounter.specs.Session.{empty as empty-session};

@@ -9,7 +9,7 @@ use lib.Pow.{pow-mono, pow-pos}
 use Rattle.exact.specs.declared.Scaled.{Scaled}
 use Rattle.exact.specs.declared.Decimal.{Decimal}
 use Rattle.exact.specs.Integer.{posPart, negPart}
-use Rattle.exact.specs.Fraction.{Frac, _≼_, _≈_, _⊗_, whole}
+use Rattle.exact.specs.Fraction.{_≼_, _≈_, _⊗_, whole}
 use Rattle.exact.specs.Scaled.{value, Normal}
 use Rattle.exact.specs.Decimals.{table-length, times-power, least-power, floor, digits-of, at-power, one-or-more, zero-decimal, too-small, below-1, decimal-of, Printed, Found, Near}
 use Rattle.exact.proofs.Fractions.{_≺_, ≼-refl, ≼-trans, ≼-≺, ≼-of-≺, ≼-of, ≽-of, mul-mono}
@@ -17,12 +17,9 @@ use Rattle.exact.proofs.Order.{above-yes, above-no}
 use Rattle.exact.proofs.Integers.{balanced, pos-diff, neg-diff}
 use Rattle.exact.proofs.DecimalCases.{is-one, is-found, is-small, low-power, whole-most, digits-most, digits-high, small-zero, decimal-same}
 use Rattle.exact.proofs.Decimals.{printed, near}
-use Rattle.encounter.proofs.decimals.Searching.{below-power, none-reaches}
+use Rattle.encounter.specs.Private.Loops.{InBinade}
+use Rattle.encounter.proofs.decimals.Searching.{below-power, unit, none-reaches}
 use Rattle.encounter.proofs.decimals.Wholes.{depth}
-
-pub unit : {q : Frac} → q ⊗ whole (2 ^ 0) ≺ whole 1 → q ≺ whole 1
-unfolding _⊗_ whole
-unit h = record { lt = omega (arith, h .lt) }
 
 -- a number below 1 whose mantissa has 32 bits
 module _ (up : Bool) (x : Scaled) (b : value x ≺ whole 1) where
@@ -86,8 +83,11 @@ module _ (up : Bool) (x y : Scaled) (n : ℕ) (f : Normal 32 y) (h : value y ≈
         alone (pos k) l = let f : ⊥ = omega arith in absurd f
         alone (negsuc k) l = refl
 
-    pub exponent-is : y .e ≡ pos 0 -ℤ pos (n - 32 + 32)
+    exponent-is : y .e ≡ pos 0 -ℤ pos (n - 32 + 32)
     exponent-is = balanced _ _ (omega (arith, l, bits, flat-y, pos-diff (pos 0) (pos (n - 32 + 32)), neg-diff (pos 0) (pos (n - 32 + 32))))
+
+    pub in-binade : n ≤ 174 → InBinade (n - 32) y
+    in-binade g = record { bits = f; exponent = exponent-is; deepest = omega arith }
 
     below : (s : ℕ) → s + 32 ≤ n → value x ⊗ whole (2 ^ s) ≺ whole 1
     below s g = ≼-≺ (mul-mono (≽-of h) (≼-refl _)) (below-power y s (f .high) flat-y (omega (arith, g, bits)))

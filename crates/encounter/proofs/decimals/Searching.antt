@@ -2,18 +2,19 @@
 use mathlib.Core.Path.{_≡_, refl, sym, subst}
 use mathlib.Core.Bool.{Bool, true, false}
 use mathlib.Core.Logic.{inr}
-use Prim.Native.Nat.{ℕ, zero, suc, _+_, _-_, _*_, _/_, _^_, _≤_, _<_}
+use Prim.Native.Nat.{ℕ, zero, suc, pred, _+_, _-_, _*_, _/_, _^_, _≤_, _<_}
 use native.Mathlib.Nat.{le-trans, lt-of-le-of-lt, mul-le-mul-right, mul-lt-mul-of-pos-right, pow-le-pow-right}
 use native.Mathlib.Omega.{arith}
 use lib.Dec.{T, leb, leb→le, lit<, lit≤}
-use lib.IntN.{pos, _-ℤ_}
+use lib.IntN.{pos}
 use lib.Pow.{pow-add, pow-mono, pow-pos}
 use Rattle.exact.specs.declared.Scaled.{Scaled}
 use Rattle.exact.specs.Integer.{posPart, negPart}
-use Rattle.exact.specs.Fraction.{_≼_, _⊗_, whole}
-use Rattle.exact.specs.Scaled.{value, Normal}
+use Rattle.exact.specs.Fraction.{Frac, _≼_, _⊗_, whole}
+use Rattle.exact.specs.Scaled.{value}
 use Rattle.exact.specs.Decimals.{table-length, entry, times-power, reaches, least-power, floor}
 use Rattle.exact.specs.Private.Ranges.{InRange}
+use Rattle.encounter.specs.Private.Loops.{InBinade}
 use Rattle.exact.specs.Private.Round.{round}
 use Rattle.exact.proofs.Fractions.{_≺_, ≼-trans}
 use Rattle.exact.proofs.Order.{at-most-yes}
@@ -33,6 +34,10 @@ unfolding value whole _⊗_
 below-power x s h z l =
     let w : 2 ^ s * 2 ^ 32 ≤ 2 ^ negPart (x .e) = rw (← pow-add 2 s 32) (pow-mono l) in
     record { lt = rw z (omega (arith, w, mul-lt-mul-of-pos-right h (pow-pos s))) }
+
+pub unit : {q : Frac} → q ⊗ whole (2 ^ 0) ≺ whole 1 → q ≺ whole 1
+unfolding _⊗_ whole
+unit h = record { lt = omega (arith, h .lt) }
 
 -- the first power that is tried, and the one before it
 abbrev pub first : ℕ → ℕ
@@ -62,25 +67,21 @@ last-low : (k : ℕ) → k < table-length → 10 ^ k * ε-square ≤ 1000 * 2 ^ 
 last-low k l = let w : k ≤ 46 = omega arith in lower w (lit≤ tt)
 
 module _ (up : Bool) (x : Scaled) where
-  -- a number with a mantissa of 32 bits and the exponent −(s + 32)
-  module _ (s : ℕ) (n : Normal 32 x) (e : x .e ≡ pos 0 -ℤ pos (s + 32)) (l : s ≤ 142) where
+  module _ (s : ℕ) (b : InBinade s x) where
     flat-x : posPart (x .e) ≡ 0
-    flat-x = rw e (omega (arith, pos-diff (pos 0) (pos (s + 32))))
+    flat-x = rw (b .exponent) (omega (arith, pos-diff (pos 0) (pos (s + 32))))
 
     depth : negPart (x .e) ≡ s + 32
-    depth = rw e (omega (arith, neg-diff (pos 0) (pos (s + 32))))
+    depth = rw (b .exponent) (omega (arith, neg-diff (pos 0) (pos (s + 32))))
 
     pub in-range : InRange 32 174 x
-    in-range = record { is-scaled = inr n; above = omega (arith, flat-x); below = omega (arith, depth) }
+    in-range = record { is-scaled = inr (b .bits); above = omega (arith, flat-x); below = omega (arith, depth, b .deepest) }
 
-    small : value x ⊗ whole (2 ^ s) ≺ whole 1
-    small = below-power x s (n .high) flat-x (omega (arith, depth))
-
-    pub below-one : value x ⊗ whole (2 ^ 0) ≺ whole 1
-    below-one = below-power x 0 (n .high) flat-x (omega (arith, depth))
+    pub below-one : value x ≺ whole 1
+    below-one = unit (below-power x 0 (b .bits .high) flat-x (omega (arith, depth)))
 
     pub before-first : (k : ℕ) → k < first s → reaches up x k ≡ false
-    before-first k h = too-low up x s k small (first-low s k (omega arith) h)
+    before-first k h = too-low up x s k (below-power x s (b .bits .high) flat-x (omega (arith, depth))) (first-low s k (omega (arith, b .deepest)) h)
 
   pub none-reaches : value x ⊗ whole (2 ^ 143) ≺ whole 1 → least-power up x ≡ table-length
   unfolding least-power
@@ -108,21 +109,22 @@ module _ (up : Bool) (x : Scaled) (k : ℕ) where
     unfolding times-power
     times-range l r = rw e (widen (lit≤ tt) (product-range up 32 (lit< tt) r (entry-range up k l)))
 
-    pub reaches-yes : {w : ℕ} → w ≡ floor (value p) → 1000 ≤ w → reaches up x k ≡ true
+  module _ {w : ℕ} (f : w ≡ floor (value (times-power up x k))) where
+    pub reaches-yes : 1000 ≤ w → reaches up x k ≡ true
     unfolding reaches
-    reaches-yes f l = at-most-yes _ _ (≼-trans (ordered (rw f at l)) (rw (← e) (floor-below (value p))))
+    reaches-yes l = at-most-yes _ _ (≼-trans (ordered (rw f at l)) (floor-below _))
 
-    pub reaches-no : {w : ℕ} → w ≡ floor (value p) → (1000 ≤ w → ⊥) → reaches up x k ≡ false
-    reaches-no f l = go (reaches up x k) refl
+    pub reaches-no : (1000 ≤ w → ⊥) → reaches up x k ≡ false
+    reaches-no l = go (reaches up x k) refl
       where
         go : (b : Bool) → reaches up x k ≡ b → b ≡ false
-        go true h = absurd (l (rw (f, e) (floor-least _ 1000 (reached up x k h))))
+        go true h = absurd (l (rw f (floor-least _ 1000 (reached up x k h))))
         go false h = refl
 
 -- where the power before does not reach 1,000
-pub times-flat : (up : Bool) (x : Scaled) (k : ℕ) {p : Scaled} → 0 < k → p ≡ times-power up x k → ((j : ℕ) → j < k → reaches up x j ≡ false) → posPart (p .e) ≡ 0
+pub times-flat : (up : Bool) (x : Scaled) (k : ℕ) {p : Scaled} → 0 < k → p ≡ times-power up x k → reaches up x (pred k) ≡ false → posPart (p .e) ≡ 0
 times-flat up x zero l e u = let f : ⊥ = omega arith in absurd f
-times-flat up x (suc k) l e u = rw e (flat (times-power up x (suc k)) (unfold times-power in round-is up 32 _ (lit< tt) .is-scaled) (under up x k (u k (omega arith))))
+times-flat up x (suc k) l e u = rw e (flat (times-power up x (suc k)) (unfold times-power in round-is up 32 _ (lit< tt) .is-scaled) (under up x k u))
 
 -- k is the least power
 pub least-at : (up : Bool) (x : Scaled) (k : ℕ) → k ≤ table-length → ((j : ℕ) → j < k → reaches up x j ≡ false) → (k < table-length → reaches up x k ≡ true) → k ≡ least-power up x

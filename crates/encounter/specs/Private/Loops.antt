@@ -1,11 +1,12 @@
--- Scaled numbers as the loops hold them: in two machine words, and both sides together; and whose numbers a round of the exponential holds. No line of the paper.
+-- Scaled numbers as the loops hold them: in two machine words, and both sides together; whose numbers a round of the exponential holds; and where a decimal's
+-- power is looked for. No line of the paper.
 use mathlib.Core.Path.{_≡_}
 use mathlib.Core.Bool.{Bool, true, false, cond, _&&_}
 use Prim.Native.Nat.{ℕ, suc, _+_, _*_, _^_, _≤_, _<_}
-use lib.IntN.{ℤ}
+use lib.IntN.{ℤ, pos, _-ℤ_}
 use lib.Ieee.{size}
 use Rattle.exact.specs.declared.Scaled.{Scaled}
-use Rattle.exact.specs.Scaled.{scaled, value}
+use Rattle.exact.specs.Scaled.{scaled, value, Normal}
 use Rattle.exact.specs.Private.Round.{pack, round}
 use Rattle.exact.specs.declared.Encounter.{Encounter}
 use Rattle.exact.specs.Refusals.{Accepted}
@@ -37,6 +38,12 @@ pub record IsReciprocal (r : Reciprocal) : Type 0 where
   pub low-fits : r .low ≤ 2 ^ 32
   pub above : 2 ^ 63 * 2 ^ r .bits ≤ (r .high * 2 ^ 32 + r .low) * r .k
   pub near : (r .high * 2 ^ 32 + r .low) * r .k < 2 ^ 63 * 2 ^ r .bits + r .k
+
+-- x lies in the binade from 2^-(s+1) to below 2^-s: its mantissa has 32 bits and its exponent is −(s + 32). The table of powers of ten is for s up to 142
+pub record InBinade (s : ℕ) (x : Scaled) : Type 0 where
+  pub bits : Normal 32 x
+  pub exponent : x .e ≡ pos 0 -ℤ pos (s + 32)
+  pub deepest : s ≤ 142
 
 -- one side of a pair: the lower side's where up is false
 abbrev pub side-of : Bool → Pair → Scaled

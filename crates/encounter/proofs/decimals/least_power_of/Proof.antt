@@ -1,4 +1,4 @@
-use mathlib.Core.Path.{_≡_, _∙_}
+use mathlib.Core.Path.{_≡_}
 use mathlib.Core.Bool.{false}
 use Prim.Native.Nat.{ℕ, _-_, _≤_, _<_}
 use native.Mathlib.Omega.{arith}
@@ -6,9 +6,8 @@ use borrow.Author.Count.{below-more}
 use borrow.Author.Needs.{needs}
 use lib.Dec.{lit≤}
 use Rattle.exact.specs.Decimals.{table-length, reaches}
-use Rattle.exact.proofs.Ranges.{widen}
 use Rattle.encounter.specs.Private.Loops.{narrow}
-use Rattle.encounter.proofs.decimals.Searching.{in-range, before-first, first-within, entry-range, times-is, times-range, times-flat, reaches-yes, reaches-no, least-at}
+use Rattle.encounter.proofs.decimals.Searching.{in-range, before-first, first-within, reaches-yes, reaches-no, least-at}
 use Rattle.encounter.proofs.decimals.least_power_of.Statement.{statement}
 use Rattle.encounter.proofs.decimals.least_power_of.Tie as tie
 
@@ -25,44 +24,20 @@ loop-holds : tie.Need-loop-holds Inv-loop μ-loop
 loop-holds c =
     let z = c .before in
     rw (c .first-power .ensures)
-    (omega arith, omega (arith, first-within (z .args .s) (z .pre .2)), before-first (z .args .up) (narrow (z .args .x)) (z .args .s) (z .pre .0) (z .pre .1) (z .pre .2))
+    (omega arith, omega (arith, first-within (z .args .s) (z .pre .deepest)), before-first (z .args .up) (narrow (z .args .x)) (z .args .s) (z .pre))
 
-power-of-ten-requires : tie.Need-power-of-ten-requires Inv-loop μ-loop
-power-of-ten-requires c κs = c .loop-test .taken
-
-widen-requires : tie.Need-widen-requires Inv-loop μ-loop
-widen-requires c κs = search needs
-
-product-requires : tie.Need-product-requires Inv-loop μ-loop
-product-requires c κs =
-    let z = c .before .before .before .before .before in
-    let up = z .args .up in (
-      widen (lit≤ tt) (in-range up (narrow (z .args .x)) (z .args .s) (z .pre .0) (z .pre .1) (z .pre .2)),
-      rw (c .widen .ensures, c .before .power-of-ten .ensures) (widen (lit≤ tt) (entry-range _ (c .before .before .before .loop .k) (c .before .before .loop-test .taken))),
-    )
-
-whole-part-requires : tie.Need-whole-part-requires Inv-loop μ-loop
-whole-part-requires c κs =
-    let z = c .before .before .before .before .before .before in
-    let up = z .args .up in
-    let x = narrow (z .args .x) in
-    let k = c .before .before .before .before .loop .k in
-    let inv = c .before .before .before .before .loop .inv in
-    let e = times-is up x k (c .before .widen .ensures ∙ c .before .before .power-of-ten .ensures) (c .product .ensures) in (
-      times-range up x k e (c .before .before .before .loop-test .taken) (in-range up x (z .args .s) (z .pre .0) (z .pre .1) (z .pre .2)),
-      times-flat up x k (inv .0) e (inv .2),
-    )
+whole-at-requires : tie.Need-whole-at-requires Inv-loop μ-loop
+whole-at-requires c κs =
+    let z = c .before .before .before in
+    let inv = c .before .loop .inv in
+    (in-range (z .args .up) (narrow (z .args .x)) (z .args .s) (z .pre), inv .0, c .loop-test .taken, inv .2 _ (omega (arith, inv .0)))
 
 returns : tie.Need-returns Inv-loop μ-loop
 returns c =
-    let z = c .before .before .before .before .before .before .before .before in
-    let up = z .args .up in
-    let x = narrow (z .args .x) in
-    let k = c .before .before .before .before .before .before .loop .k in
-    let inv = c .before .before .before .before .before .before .loop .inv in
-    let e = times-is up x k (c .before .before .before .widen .ensures ∙ c .before .before .before .before .power-of-ten .ensures) (c .before .before .product .ensures) in
-    let w = c .before .whole-part .ensures in
-    (least-at up x k (inv .1) (inv .2) (λ l. reaches-yes up x k e w (c .if1 .taken)), λ l. rw (← e) w)
+    let a = c .before .before .before .before .before .args in
+    let l = c .before .before .before .loop in
+    let w = c .before .whole-at .ensures in
+    (least-at (a .up) (narrow (a .x)) (l .k) (l .inv .1) (l .inv .2) (λ m. reaches-yes (a .up) (narrow (a .x)) (l .k) w (c .if1 .taken)), λ m. w)
 
 add-k : tie.Need-add-k Inv-loop μ-loop
 add-k c = search needs
@@ -72,13 +47,9 @@ loop-less c = search needs
 
 loop-again : tie.Need-loop-again Inv-loop μ-loop
 loop-again c =
-    let z = c .before .before .before .before .before .before .before .before in
-    let up = z .args .up in
-    let x = narrow (z .args .x) in
-    let k = c .before .before .before .before .before .before .loop .k in
-    let inv = c .before .before .before .before .before .before .loop .inv in
-    let e = times-is up x k (c .before .before .before .widen .ensures ∙ c .before .before .before .before .power-of-ten .ensures) (c .before .before .product .ensures) in
-    (omega arith, search needs, below-more _ _ (inv .2) (reaches-no up x k e (c .before .whole-part .ensures) (λ l. omega (arith, l, c .if1 .left))))
+    let a = c .before .before .before .before .before .args in
+    let l = c .before .before .before .loop in
+    (omega arith, search needs, below-more _ _ (l .inv .2) (reaches-no (a .up) (narrow (a .x)) (l .k) (c .before .whole-at .ensures) (λ m. omega (arith, m, c .if1 .left))))
 
 returns-2 : tie.Need-returns-2 Inv-loop μ-loop
 returns-2 c =
@@ -97,10 +68,7 @@ least-power-of-spec =
     μ-loop
     first-power-requires
     loop-holds
-    power-of-ten-requires
-    widen-requires
-    product-requires
-    whole-part-requires
+    whole-at-requires
     returns
     add-k
     loop-less

@@ -10,7 +10,7 @@ use Rattle.exact.specs.declared.Scaled.{Scaled}
 use Rattle.exact.specs.Private.Ranges.{InRange}
 use Rattle.exact.proofs.Signed.{fits, diff-fits-in}
 use Rattle.encounter.specs.Private.Loops.{narrow}
-use Rattle.encounter.proofs.decimals.Cases.{with-promises, zero-is, one-is, tiny-is, exponent-is, same-is}
+use Rattle.encounter.proofs.decimals.Cases.{with-promises, zero-is, one-is, tiny-is, in-binade, same-is}
 use Rattle.encounter.proofs.decimals.to_decimal.Statement.{statement}
 use Rattle.encounter.proofs.decimals.to_decimal.Tie as tie
 
@@ -54,7 +54,7 @@ below-one-requires c κs =
     let y = c .before .before .before .before .normal in
     let g = c .before .before .gap in
     let n = y .ensures in
-    (n .0, exponent-is (a .up) (a .x) (narrow (y .result)) (g .result) (n .0) (n .2) (rw (read (n .1)) at (g .ensures)) (c .before .if2 .left), search needs)
+    in-binade (a .up) (a .x) (narrow (y .result)) (g .result) (n .0) (n .2) (rw (read (n .1)) at (g .ensures)) (c .before .if2 .left) (c .if3 .left)
 
 returns-4 : tie.Need-returns-4
 returns-4 c =
