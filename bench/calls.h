@@ -1,12 +1,33 @@
 /* One contender from its calls. Before each inclusion these are defined:
    NAME, LABEL, SESSION, ANSWER, EMPTY(s), BEGIN(s, E), ADD(s, count), READ(s), COPY(to, from), where s, to and from are
-   pointers, and ENDS(s, a) for the harness's answer to the answer a of a read of s. */
+   pointers, and ENDS(s, a) for the harness's answer to the answer a of a read of s. Where BEGIN_CONJUNCTION(s, C) is not
+   defined, it is made from BEGIN. */
 
 #define JOIN_(a, b) a##_##b
 #define JOIN(a, b) JOIN_(a, b)
 #define OF(x) JOIN(x, NAME)
 
 static SESSION OF(own), OF(first), OF(copies)[COPIES], OF(screened)[SCREENED];
+
+#ifndef BEGIN_CONJUNCTION
+#define BEGIN_CONJUNCTION OF(conjunction)
+
+static ANSWER OF(conjunction)(SESSION *s, jinthuol_conjunction C)
+{
+    /* 9 comes after the tests of a begin, and the session is as it was */
+    if (C.object == 0) {
+        EMPTY(&OF(first));
+        ANSWER tried = BEGIN(&OF(first), C.encounter);
+        return tried.refusal ? tried : (ANSWER){.refusal = 9};
+    }
+    ANSWER a = BEGIN(s, C.encounter);
+    if (a.refusal == 0) {
+        s->object = C.object;
+        s->time = C.time;
+    }
+    return a;
+}
+#endif
 
 static void OF(empty)(void)
 {
@@ -16,6 +37,12 @@ static void OF(empty)(void)
 static struct answer OF(begin)(jinthuol_encounter E)
 {
     ANSWER a = BEGIN(&OF(own), E);
+    return (struct answer){.refusal = a.refusal, .N = a.N};
+}
+
+static struct answer OF(begin_conjunction)(jinthuol_conjunction C)
+{
+    ANSWER a = BEGIN_CONJUNCTION(&OF(own), C);
     return (struct answer){.refusal = a.refusal, .N = a.N};
 }
 
@@ -33,16 +60,8 @@ static struct answer OF(read)(void)
 
 static double OF(time_begin)(const struct measured *e, double least)
 {
-    double spent = 0, calls = 0;
     EMPTY(&OF(first));
-    while (spent < least) {
-        double start = now();
-        for (int i = 0; i < 16; i++)
-            sink = BEGIN(&OF(first), e->E).N;
-        spent += now() - start;
-        calls += 16;
-    }
-    return spent / calls;
+    return NANOSECONDS(16, least, sink = BEGIN(&OF(first), e->E).N);
 }
 
 /* Only the adds are timed: each has its own copy of the begun session. */
@@ -67,18 +86,10 @@ static double OF(time_add)(const struct measured *e, double least)
 
 static double OF(time_read)(const struct measured *e, double least)
 {
-    double spent = 0, calls = 0;
     EMPTY(&OF(first));
     BEGIN(&OF(first), e->E);
     ADD(&OF(first), (uint16_t)(e->N - 1));
-    while (spent < least) {
-        double start = now();
-        for (int i = 0; i < 1024; i++)
-            sink = READ(&OF(first)).N;
-        spent += now() - start;
-        calls += 1024;
-    }
-    return spent / calls;
+    return NANOSECONDS(1024, least, sink = READ(&OF(first)).N);
 }
 
 static void OF(time_screening)(const struct measured *list, double *begin, double *term)
@@ -100,7 +111,16 @@ static void OF(time_screening)(const struct measured *list, double *begin, doubl
 }
 
 const struct contender NAME = {
-    LABEL, OF(empty), OF(begin), OF(add), OF(read), OF(time_begin), OF(time_add), OF(time_read), OF(time_screening),
+    LABEL,
+    OF(empty),
+    OF(begin),
+    OF(begin_conjunction),
+    OF(add),
+    OF(read),
+    OF(time_begin),
+    OF(time_add),
+    OF(time_read),
+    OF(time_screening),
 };
 
 #undef NAME
@@ -109,6 +129,7 @@ const struct contender NAME = {
 #undef ANSWER
 #undef EMPTY
 #undef BEGIN
+#undef BEGIN_CONJUNCTION
 #undef ADD
 #undef READ
 #undef COPY

@@ -20,7 +20,7 @@ ROOT = pathlib.Path(__file__).resolve().parent.parent
 sys.dont_write_bytecode = True
 sys.path.insert(0, str(ROOT / "tests"))
 from encounters import AT_THRESHOLD
-from fields import answer_numbers
+from fields import ANSWER, answer_numbers
 from reference import LARGEST, LARGEST_N, LARGEST_T, Session
 
 SEED = 1
@@ -76,6 +76,16 @@ def refused(rng):
     return R, sx, sy, xm, ym
 
 
+# Of a begin_conjunction; 0 is no object number.
+OBJECTS = (0, 1, 25544, 2**32 - 1)
+TIMES = (0, 2, 1440, 2**32 - 2)
+
+
+def begin(rng, inputs):
+    """A begin of either kind."""
+    return rng.choice((("begin", *inputs), ("begin_conjunction", *inputs, rng.choice(OBJECTS), rng.choice(TIMES))))
+
+
 def calls_of(rng, long):
     """The calls for one encounter."""
     calls = []
@@ -84,7 +94,7 @@ def calls_of(rng, long):
     if rng.random() < 0.2:
         calls.append(rng.choice((("read",), ("add", rng.choice((0, 1, 5, 65535))))))
     draw = rng.choices((drawn, extreme, refused), (8, 1, 1))[0]
-    calls.append(("begin", *draw(rng)))
+    calls.append(begin(rng, draw(rng)))
     left = rng.randrange(LARGEST_N // 4, LARGEST_N) if long else rng.randrange(60)
     if long and rng.random() < 0.3:
         left = LARGEST_N - 1
@@ -93,7 +103,7 @@ def calls_of(rng, long):
         calls += [("add", count), ("read",)]
         left -= count
     if rng.random() < 0.1:
-        calls.append(("begin", *refused(rng)))
+        calls.append(begin(rng, refused(rng)))
     if long:
         calls.append(("add", rng.choice((0, 1, LARGEST_N, 65535))))
     calls.append(("read",))
@@ -106,7 +116,7 @@ def answers(calls):
     for name, *words in calls:
         if name == "empty":
             session = Session()
-            yield (0,) * 7
+            yield (0,) * len(ANSWER)
         else:
             a = getattr(session, name)(*words)
             yield tuple(answer_numbers(a))

@@ -13,7 +13,7 @@ struct measured {
 };
 
 /* The refusal's number, or 0; the order; mantissa and exponent of the lower end, then of the upper one; the class,
-   0 clear, 1 alert, 2 open. */
+   0 clear, 1 alert, 2 open; the object number and the time. */
 struct answer {
     uint32_t refusal, N;
     uint32_t ml;
@@ -21,6 +21,7 @@ struct answer {
     uint32_t mh;
     int32_t eh;
     uint32_t class_;
+    uint32_t object, time;
 };
 
 struct contender {
@@ -28,6 +29,7 @@ struct contender {
     /* The calls on one session that the contender keeps. */
     void (*empty)(void);
     struct answer (*begin)(jinthuol_encounter E);
+    struct answer (*begin_conjunction)(jinthuol_conjunction C);
     struct answer (*add)(uint16_t count);
     struct answer (*read)(void);
     /* Nanoseconds of a begin, of each term of an add, and of a read, over at least `least` nanoseconds. */
@@ -51,5 +53,19 @@ double now(void);
 
 /* Answers go here, so that no call is left out as useless. */
 extern volatile uint32_t sink;
+
+/* Nanoseconds of what is done, over at least `least` nanoseconds; it is done so many times in a row. */
+#define NANOSECONDS(times, least, done)       \
+    ({                                        \
+        double spent = 0, all = 0;            \
+        while (spent < (least)) {             \
+            double start = now();             \
+            for (int i = 0; i < (times); i++) \
+                done;                         \
+            spent += now() - start;           \
+            all += (times);                   \
+        }                                     \
+        spent / all;                          \
+    })
 
 #endif

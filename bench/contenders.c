@@ -13,7 +13,7 @@
 
 #define COPY_STRUCT(to, from) (*(to) = *(from))
 #define STRUCT_ENDS(s, a) \
-    ((void)(s), (struct answer){(a).refusal, (a).N, (a).lower.m, (a).lower.e, (a).upper.m, (a).upper.e, (a).class_})
+    ((void)(s), (struct answer){(a).refusal, (a).N, (a).lower.m, (a).lower.e, (a).upper.m, (a).upper.e, (a).class_, (a).object, (a).time})
 
 #define NAME proved
 #define LABEL "proved"
@@ -21,6 +21,7 @@
 #define ANSWER jinthuol_answer
 #define EMPTY(s) (*(s) = jinthuol_empty())
 #define BEGIN jinthuol_begin
+#define BEGIN_CONJUNCTION jinthuol_begin_conjunction
 #define ADD jinthuol_add
 #define READ(s) jinthuol_read(*(s))
 #define COPY COPY_STRUCT
@@ -66,7 +67,7 @@
 #ifdef WITH_MPFR
 static struct answer steps_ends(const steps_session *s, steps_answer a)
 {
-    struct answer all = {.refusal = a.refusal, .N = a.N, .class_ = a.class_};
+    struct answer all = {.refusal = a.refusal, .N = a.N, .class_ = a.class_, .object = a.object, .time = a.time};
     if (a.refusal == 0) {
         steps_scaled(s->lower_end, &all.ml, &all.el);
         steps_scaled(s->upper_end, &all.mh, &all.eh);

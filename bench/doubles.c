@@ -152,6 +152,7 @@ static __attribute__((noinline)) uint32_t open_session(plain_session *s, jinthuo
     pair M = sum(sum(sum(u, h * both(0.5)), X), Y);
     pair d = product(c, factor(M)) * both(0.5);
     s->encounter = E;
+    s->object = s->time = 0;
     s->N = 1;
     put(&s->lower.u, &s->upper.u, u, 0);
     put(&s->lower.h, &s->upper.h, h, 0);

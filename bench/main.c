@@ -57,14 +57,14 @@ double now(void)
 
 static void print_answer(const struct answer *a)
 {
-    printf("%" PRIu32 " %" PRIu32 " %" PRIu32 " %" PRId32 " %" PRIu32 " %" PRId32 " %" PRIu32 "\n",
-           a->refusal, a->N, a->ml, a->el, a->mh, a->eh, a->class_);
+    printf("%" PRIu32 " %" PRIu32 " %" PRIu32 " %" PRId32 " %" PRIu32 " %" PRId32 " %" PRIu32 " %" PRIu32 " %" PRIu32 "\n",
+           a->refusal, a->N, a->ml, a->el, a->mh, a->eh, a->class_, a->object, a->time);
 }
 
 static int equal(const struct answer *a, const struct answer *b)
 {
     return a->refusal == b->refusal && a->N == b->N && a->ml == b->ml && a->el == b->el && a->mh == b->mh &&
-           a->eh == b->eh && a->class_ == b->class_;
+           a->eh == b->eh && a->class_ == b->class_ && a->object == b->object && a->time == b->time;
 }
 
 /* The answer of a read at order N. */
@@ -221,17 +221,7 @@ static int compare_decimals(void)
 static double time_decimals(jinthuol_decimal (*decimal)(bool, jinthuol_scaled), const struct answer *a)
 {
     jinthuol_scaled lower = {a->ml, a->el}, upper = {a->mh, a->eh};
-    double spent = 0, calls = 0;
-    while (spent < LEAST) {
-        double start = now();
-        for (int i = 0; i < 1024; i++) {
-            sink = decimal(false, lower).digits;
-            sink = decimal(true, upper).digits;
-        }
-        spent += now() - start;
-        calls += 1024;
-    }
-    return spent / calls;
+    return NANOSECONDS(1024, LEAST, (sink = decimal(false, lower).digits, sink = decimal(true, upper).digits));
 }
 
 /* Both decimals of the read of each case, and how many times the read they cost. */
@@ -248,6 +238,28 @@ static void print_decimals(void)
         }
         printf("  %-8s %9.1f %9.1f  %5.2f  %5.2f\n", CASES[i].name, median(found[0]), median(found[1]), ratio(found[0], found[1]),
                ratio(found[0], found[2]));
+    }
+}
+
+/* Nanoseconds of a begin of kind 4 by the library. */
+static double time_conjunction(jinthuol_encounter E)
+{
+    jinthuol_session session = jinthuol_empty();
+    jinthuol_conjunction C = {E, 25544, 1440};
+    return NANOSECONDS(16, LEAST, sink = jinthuol_begin_conjunction(&session, C).N);
+}
+
+/* Begins of both kinds by the library, and how many times the one of kind 1 the other takes. */
+static void print_begins(void)
+{
+    static double found[2][ROUNDS];
+    printf("\nA begin of kind 1 and of kind 4, proved\n  %-8s %9s %9s  4/1\n", "", "kind 1", "kind 4");
+    for (int i = 0; i < CASE_COUNT; i++) {
+        for (int round = 0; round < ROUNDS; round++) {
+            found[0][round] = CONTENDERS[PROVED]->time_begin(&CASES[i], LEAST);
+            found[1][round] = time_conjunction(CASES[i].E);
+        }
+        printf("  %-8s %9.1f %9.1f  %.3f\n", CASES[i].name, median(found[0]), median(found[1]), ratio(found[1], found[0]));
     }
 }
 
@@ -294,22 +306,29 @@ static int table(void)
     }
     printf("\nScreening: %d encounters, N from 81 to 120, each begun once and added once in a round\n", SCREENED);
     print_times(times[CASE_COUNT], READ);
+    print_begins();
     print_decimals();
     return 0;
 }
 
-/* Lines `empty`, `begin R sx sy xm ym`, `add count` and `read`; the answer's fields, or 0 for empty. */
+#define FIVE "%" SCNu32 " %" SCNu32 " %" SCNu32 " %" SCNd32 " %" SCNd32
+
+/* Lines `empty`, `begin R sx sy xm ym`, `begin_conjunction R sx sy xm ym object time`, `add count` and `read`; the answer's
+   fields, or 0 for empty. */
 static int calls(const struct contender *c)
 {
     char line[128];
     c->empty();
     while (fgets(line, sizeof line, stdin)) {
-        jinthuol_encounter E;
+        jinthuol_conjunction C;
+        jinthuol_encounter *E = &C.encounter;
         uint16_t count;
         struct answer a = {0};
-        if (sscanf(line, "begin %" SCNu32 " %" SCNu32 " %" SCNu32 " %" SCNd32 " %" SCNd32, &E.R, &E.sx, &E.sy, &E.xm,
-                   &E.ym) == 5)
-            a = c->begin(E);
+        if (sscanf(line, "begin " FIVE, &E->R, &E->sx, &E->sy, &E->xm, &E->ym) == 5)
+            a = c->begin(C.encounter);
+        else if (sscanf(line, "begin_conjunction " FIVE " %" SCNu32 " %" SCNu32, &E->R, &E->sx, &E->sy, &E->xm, &E->ym, &C.object,
+                        &C.time) == 7)
+            a = c->begin_conjunction(C);
         else if (sscanf(line, "add %" SCNu16, &count) == 1)
             a = c->add(count);
         else if (strcmp(line, "read\n") == 0)

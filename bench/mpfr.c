@@ -31,6 +31,7 @@ void steps_empty(steps_session *s)
     }
     EACH(ZERO)
     s->encounter = (jinthuol_encounter){0};
+    s->object = s->time = 0;
     s->N = 0;
 }
 
@@ -39,6 +40,8 @@ void steps_copy(steps_session *to, const steps_session *from)
 #define SET(x) mpfr_set(to->x, from->x, MPFR_RNDN);
     EACH(SET)
     to->encounter = from->encounter;
+    to->object = from->object;
+    to->time = from->time;
     to->N = from->N;
 }
 
@@ -140,6 +143,7 @@ steps_answer steps_begin(steps_session *s, jinthuol_encounter E)
     first_letters(&s->lower, E, MPFR_RNDD);
     open_side(&s->lower, E, MPFR_RNDD);
     s->encounter = E;
+    s->object = s->time = 0;
     s->N = 1;
     return (steps_answer){.N = 1};
 }
@@ -195,7 +199,7 @@ steps_answer steps_read(steps_session *s)
     mpfr_add(a, s->upper.sum, a, MPFR_RNDU);
     mpfr_div(s->upper_end, a, s->lower.exponential, MPFR_RNDU);
     uint32_t class_ = mpfr_greaterequal_p(s->lower_end, threshold) ? 1 : mpfr_greaterequal_p(s->upper_end, threshold) ? 2 : 0;
-    return (steps_answer){.N = s->N, .class_ = class_};
+    return (steps_answer){.N = s->N, .class_ = class_, .object = s->object, .time = s->time};
 }
 
 void steps_scaled(const mpfr_t x, uint32_t *m, int32_t *e)

@@ -16,6 +16,7 @@ typedef struct {
 typedef struct {
     int made;
     jinthuol_encounter encounter;
+    uint32_t object, time;
     uint32_t N;
     steps_side lower, upper;
     mpfr_t r256, M, d;
@@ -27,6 +28,7 @@ typedef struct {
     uint32_t N;
     /* 0 clear, 1 alert, 2 open */
     uint32_t class_;
+    uint32_t object, time;
 } steps_answer;
 
 /* Makes the variables on the first call for a session that was all zero bytes, and empties the session. */

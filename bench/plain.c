@@ -414,5 +414,5 @@ plain_answer plain_read(const plain_session *s)
     /* U(1/10,000): an end × 10,000 is at least 1 just where the end is at least this */
     const plain_scaled threshold = {3518437209u, -45};
     uint32_t class_ = at_most(threshold, lower) ? 1 : at_most(threshold, upper) ? 2 : 0;
-    return (plain_answer){0, s->N, lower, upper, class_};
+    return (plain_answer){0, s->N, lower, upper, class_, s->object, s->time};
 }

@@ -1,5 +1,5 @@
 /* begin, add and read of document 01 in whole numbers, in plain C with no proof: the same rounded steps as the proved
-   library's, written to be fast. */
+   library's, written to be fast. begin_conjunction of request #104 is in calls.h, over each contender's begin. */
 #ifndef PLAIN_H
 #define PLAIN_H
 
@@ -17,20 +17,23 @@ typedef struct {
     plain_scaled u, h, X, Y, t, exponential, c, p, v, y, sum;
 } plain_side;
 
-/* The numbers that document 01 has a session hold; N is 0 where no encounter was begun. */
+/* The numbers that document 01 and request #104 have a session hold; N is 0 where no encounter was begun. */
 typedef struct {
     jinthuol_encounter encounter;
+    uint32_t object, time;
     uint32_t N;
     plain_side lower, upper;
     plain_scaled r256, M, d;
 } plain_session;
 
-/* The refusal's number, or 0; then the order, both ends and the class: 0 clear, 1 alert, 2 open. */
+/* The refusal's number, or 0; then the order, both ends, the class (0 clear, 1 alert, 2 open), the object number and the
+   time. */
 typedef struct {
     uint32_t refusal;
     uint32_t N;
     plain_scaled lower, upper;
     uint32_t class_;
+    uint32_t object, time;
 } plain_answer;
 
 plain_session plain_empty(void);

@@ -236,6 +236,7 @@ plain_answer same_begin(plain_session *s, jinthuol_encounter E)
     put_side(&s->lower, below, small, product(false, below.u, small), total.lower);
     put_side(&s->upper, above, large, product(true, above.u, large), total.upper);
     s->encounter = E;
+    s->object = s->time = 0;
     s->N = 1;
     s->r256 = narrowed(last.upper);
     s->M = narrowed(M);

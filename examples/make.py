@@ -27,6 +27,14 @@ def read():
     return struct.pack("<B", 3)
 
 
+def begin_conjunction(encounter, object, time):
+    """Kind 4: the body of kind 1, then an object number and a time of closest approach, both unsigned 32-bit.
+
+    The object number is from 1 on. The time is in minutes from the epoch that the site chooses.
+    """
+    return struct.pack("<BIIIiiII", 4, *encounter, object, time)
+
+
 def reads_at(*orders):
     """From order 1: for each order N the terms up to it, and a read."""
     records = b""
@@ -96,6 +104,23 @@ SCRIPTS = {
     + begin(*SMALLEST)
     + reads_at(1),
     "negative-miss": begin(*CSM_2) + reads_at(1, 6) + begin(*CSM_2_MIRRORED) + reads_at(1, 6),
+    "shift": begin_conjunction(CHAN_5, 25544, 605)
+    + reads_at(14)
+    + begin_conjunction(TEST_1, 27386, 642)
+    + reads_at(70)
+    + begin_conjunction(OPEN_THEN_CLEAR, 43013, 690)
+    + reads_at(2, 19)
+    + begin_conjunction(CHAN_1, 25544, 698)
+    + reads_at(14)
+    + begin(*HALF)
+    + reads_at(15),
+    "refused-object": begin_conjunction(CHAN_5, 25544, 605)
+    + reads_at(14)
+    + begin_conjunction(TEST_1, 0, 642)
+    + read()
+    + reads_at(70)
+    + begin_conjunction(TEST_1, 27386, 642)
+    + reads_at(70),
 }
 
 

@@ -59,7 +59,14 @@ def output(command, **more):
 
 
 def cases(rng):
-    """The five inputs and an order for each."""
+    """The five inputs and an order for each; after them an object number and a time, or not."""
+    for case in inputs_and_orders(rng):
+        yield rng.choice((case, (*case, *drawn.object_and_time(rng))))
+    for _, (*encounter, number, time) in edges.conjunctions():
+        yield *encounter, 3, number, time
+
+
+def inputs_and_orders(rng):
     for encounter in [*DOCUMENTS.values(), *EDGES.values(), SMALL, THIN]:
         for N in (1, 6, *chosen(rng, encounter, LARGEST_N)):
             yield *encounter, N
@@ -90,7 +97,7 @@ def chosen(rng, encounter, most):
         yield drawn.whole(rng, most)
 
 
-WORDS = {"begin": "begun", "add": "added", "read": "read"}
+WORDS = {kind.call: kind.said for kind in records.KINDS.values()}
 
 
 def as_double(m, e):
@@ -106,14 +113,18 @@ def line(call, answer):
     if call == "read":
         words += [*answer.lower, *answer.upper, answer.class_name]
         words += [records.decimal_text(False, answer.lower), records.decimal_text(True, answer.upper)]
+        words += [answer.object, answer.time]
         words += [as_double(*answer.lower), as_double(*answer.upper)]
     return " ".join(map(str, words))
 
 
-def called(R, sx, sy, xm, ym, N):
+def called(R, sx, sy, xm, ym, N, *of_object):
     """The three calls by reference.py."""
     session = Session()
-    yield "begin", session.begin(R, sx, sy, xm, ym)
+    if of_object:
+        yield "begin_conjunction", session.begin_conjunction(R, sx, sy, xm, ym, *of_object)
+    else:
+        yield "begin", session.begin(R, sx, sy, xm, ym)
     yield "add", session.add(N - 1)
     yield "read", session.read()
 
@@ -124,6 +135,23 @@ def fails(what, program, **given):
     ended = subprocess.run([program], stderr=subprocess.PIPE, timeout=LONGEST_RUN, **given)
     if ended.returncode != 1 or ended.stderr.count(b"\n") != 1:
         differs(what, f"{ended.returncode}, {ended.stderr}", "1, a line on standard error")
+
+
+# Lines that the program does not take: numbers that are missing, too many, out of range or none, and a line that is too
+# long for it.
+WRONG_LINES = (
+    "8 1 1 8 0",
+    "8 1 1 8 0 0",
+    "4294967296 1 1 0 0 1",
+    "8 1 1 2147483648 0 1",
+    "8 1 1 8 0 1 25544",
+    "8 1 1 8 0 1 4294967296 0",
+    "8 1 1 8 0 1 25544 -1",
+    "8 1 1 8 0 1 25544 1440 0",
+    "8 1 1 8 0 1 object",
+    "8 1 1 8 0 1" + 2000 * " " + "25544 1440",
+    "R",
+)
 
 
 def of_c(rng, library):
@@ -142,7 +170,7 @@ def of_c(rng, library):
     classes = {answer.class_name for _, call, answer in due if call == "read" and not answer.refusal}
     if answered != edges.ANSWERS or classes != set(fields.CLASSES):
         sys.exit(f"bindings: the encounters have only the answers {answered} and the classes {classes}")
-    lines = "".join("%d %d %d %d %d %d\n" % case for case in tried).encode()
+    lines = "".join(" ".join(map(str, case)) + "\n" for case in tried).encode()
     for compiler, program in programs.items():
         found = output([program], input=lines).decode().splitlines()
         if len(found) != len(due):
@@ -150,7 +178,7 @@ def of_c(rng, library):
         for printed, (case, call, answer) in zip(found, due):
             if printed != line(call, answer):
                 differs(f"by {compiler}, {call} of {case}", printed, line(call, answer))
-        for wrong in "8 1 1 8 0", "8 1 1 8 0 0", "4294967296 1 1 0 0 1", "8 1 1 2147483648 0 1", "R":
+        for wrong in WRONG_LINES:
             fails(f"{compiler}, {wrong}", program, input=wrong.encode())
         with open("/dev/full", "wb") as full:
             fails(f"{compiler}, a full device", program, input=b"8 1 1 8 0 1", stdout=full)
@@ -166,12 +194,23 @@ def scripts(rng):
         yield path.name, path.read_bytes()
     for name, script, _ in edges.scripts():
         yield name, script
-    yield "an encounter and reads", edges.BEGIN_HALF + READ * 2000
+    yield "an encounter and reads", edges.BEGIN_OBJECT + READ * 2000
+    for refusal, record in edges.begins():
+        yield f"a begin, {refusal}", edges.BEGIN_OBJECT + record + READ
     for n in range(200):
         yield f"drawn {n}", drawn.script(rng, rng.randrange(1, 25), 300)
     for n in range(40):
         for wrong in drawn.WRONG:
             yield f"{wrong.__name__} {n}", wrong(rng)
+
+
+def arguments(record, python):
+    """What Python's call of a record takes."""
+    if record.kind.call == "begin":
+        return [python.Encounter(*record.inputs)]
+    if record.kind.call == "begin_conjunction":
+        return [python.Conjunction(python.Encounter(*record.encounter), *record.inputs[5:])]
+    return record.inputs
 
 
 def call_by_call(name, script, python):
@@ -181,9 +220,8 @@ def call_by_call(name, script, python):
     for record in itertools.islice(records.records(script), 100):
         if record.refusal:
             break
-        inputs = [python.Encounter(*record.inputs)] if record.kind.call == "begin" else record.inputs
-        a = getattr(found, record.kind.call)(*inputs)
-        answer = [a.refusal, a.N, a.lower.m, a.lower.e, a.upper.m, a.upper.e, a.class_]
+        a = getattr(found, record.kind.call)(*arguments(record, python))
+        answer = [a.refusal, a.N, a.lower.m, a.lower.e, a.upper.m, a.upper.e, a.class_, a.object, a.time]
         numbers = answer + list(found.kept.words)
         expected = fields.answer_numbers(record.called(due))
         # Python has the session's words unsigned.
@@ -216,12 +254,24 @@ def of_scripts(rng, rust):
                 first = next((pair for pair in pairs if pair[0] != pair[1]), ("a line end", "another"))
                 differs(f"by {language}, {name}: {shortened(script.hex(), 300)}", *first)
         calls += call_by_call(name, script, python)
-    try:
-        python.Session.empty().begin(python.Encounter(R=1 << 32, sx=1, sy=1, xm=0, ym=0))
-        sys.exit("bindings: Python takes 2^32 for R")
-    except struct.error:
-        pass
+    of_wrong_numbers(python)
     return count, calls
+
+
+def of_wrong_numbers(python):
+    """Python takes no number that does not fit."""
+    session, encounter = python.Session.empty(), python.Encounter(1, 1, 1, 0, 0)
+    for call, wrong in (
+        (session.begin, encounter._replace(R=1 << 32)),
+        (session.begin_conjunction, python.Conjunction(encounter._replace(R=1 << 32), 1, 2)),
+        (session.begin_conjunction, python.Conjunction(encounter, 1 << 32, 2)),
+        (session.begin_conjunction, python.Conjunction(encounter, 1, 1 << 32)),
+        (session.begin_conjunction, python.Conjunction(encounter, 1, -1)),
+    ):
+        try:
+            sys.exit(f"bindings: Python takes {wrong}: {call(wrong)}")
+        except struct.error:
+            pass
 
 
 def of_rust():
@@ -234,7 +284,7 @@ def of_rust():
     return passed, BUILT / "rust/release/examples/screen"
 
 
-FUNCTIONS = ("empty", "begin", "add", "read", "to_decimal", "run")
+FUNCTIONS = ("empty", "begin", "begin_conjunction", "add", "read", "to_decimal", "run")
 
 
 def of_another_version():
@@ -246,7 +296,7 @@ def of_another_version():
     output(["gcc", "-c", folder / "own.c", "-o", folder / "own.o"])
     output(["ar", "rc", folder / "libjinthuol.a", folder / "own.o"])
     environment = {**os.environ, "JINTHUOL_LIB_DIR": str(folder), "CARGO_TARGET_DIR": str(folder / "rust")}
-    tests = [["test", "--test", "calls", name] for name in ("brackets", "decimals")]
+    tests = [["test", "--test", "calls", name] for name in ("brackets", "decimals", "objects")]
     for command in ["run", "--example", "screen", EXAMPLES[0]], *tests:
         command = ["cargo", command[0], "--offline", "--locked", *map(str, command[1:])]
         ended = subprocess.run(command, cwd=BINDINGS / "rust", env=environment, capture_output=True, timeout=LONGEST_RUN)

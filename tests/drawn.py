@@ -3,9 +3,10 @@
 import math
 
 import orders
+from edges import MOST_32
 from encounters import MISSES, SIZES
 from exact_series import Encounter
-from records import KINDS, MOST_COUNT, READ, add, begin
+from records import KINDS, MOST_COUNT, READ, add, packed
 from reference import LARGEST, LARGEST_N, LARGEST_T, Session
 
 
@@ -110,6 +111,18 @@ def encounter(rng):
     return ordinary(rng)
 
 
+def object_and_time(rng):
+    """An object number and a time, at their limits or of any size; never the same number."""
+    number = rng.choice((0, 1, MOST_32, whole(rng, MOST_32), whole(rng, MOST_32)))
+    time = rng.choice((0, 1, MOST_32, whole(rng, MOST_32), whole(rng, MOST_32)))
+    return (number, time) if number != time else object_and_time(rng)
+
+
+def begin_inputs(rng, encounter):
+    """The kind of a begin, 1 or 4, and its inputs."""
+    return rng.choice(((1, *encounter), (4, *encounter, *object_and_time(rng))))
+
+
 # Scripts.
 
 
@@ -129,9 +142,9 @@ def script(rng, records, terms):
     for _ in range(records):
         way = rng.random()
         if way < 0.3 or (session.N == 0 and way < 0.8):
-            inputs = encounter(rng)
-            written += begin(*inputs)
-            session.begin(*inputs)
+            kind, *inputs = begin_inputs(rng, encounter(rng))
+            written += packed(kind, *inputs)
+            getattr(session, KINDS[kind].call)(*inputs)
         elif way < 0.65:
             count = max(0, min(count_for(rng, session), MOST_COUNT))
             if session.N + count <= LARGEST_N:
@@ -162,7 +175,7 @@ def random_bodies(rng):
     for _ in range(rng.randrange(1, 20)):
         kind = rng.choice((*KINDS, 3))
         body = rng.randbytes(KINDS[kind].body.size)
-        if kind == 1:
+        if KINDS[kind].said == "begun":
             # Some of the numbers below 2^24 or below 2^8.
             words = [body[i : i + 4] for i in range(0, len(body), 4)]
             body = b"".join(w[:k] + bytes(4 - k) for w in words for k in [rng.choice((4, 3, 3, 1, 1))])

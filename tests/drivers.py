@@ -142,10 +142,11 @@ fn main() {
 }
 """
 
-# The calls. Reads records of 21 bytes: the kind, then five words, little-endian. Kinds 1 and 4 are begin with its five
-# inputs, 2 and 5 are add with its count in the first word, 3 is read, and 0 stands for an empty session in place of the
-# one before. For kinds 4 and 5 the session is lent; else it goes by value. Writes every number of the answer, then of
-# the session, in the order of fields.py.
+# The calls. Reads records of 29 bytes: the kind, then seven words, little-endian. Kinds 1 to 4 are those of a script:
+# begin with its five inputs, add with its count in the first word, read, and begin_conjunction with its seven inputs.
+# Kinds 5, 6 and 7 are begin, add and begin_conjunction on a session that is lent; else it goes by value. Kind 0 stands for
+# an empty session in place of the one before. Writes every number of the answer, then of the session, in the order of
+# fields.py.
 SESSIONS = """\
 mod words;
 use crate::words::encounter_at;
@@ -159,29 +160,38 @@ use encounter::state::Called;
 use encounter::state::Class;
 use encounter::state::Session;
 use encounter::state::Side;
+use exact::Conjunction;
 use exact::Encounter;
 use exact::Scaled;
 
 fn nothing() -> Answer {
     let zero = Scaled::ZERO;
-    Answer { refusal: 0, N: 0, lower: zero, upper: zero, class: Class::Clear }
+    Answer { refusal: 0, N: 0, lower: zero, upper: zero, class: Class::Clear, object: 0, time: 0 }
 }
 
-fn by_value(s: Session, b: &[u8; 21]) -> Called {
+fn conjunction_at(b: &[u8; 29]) -> Conjunction {
+    Conjunction { encounter: encounter_at(b, 1), object: word(b, 21), time: word(b, 25) }
+}
+
+fn by_value(s: Session, b: &[u8; 29]) -> Called {
     match b[0] {
         1 => calls::begin(s, encounter_at(b, 1)),
         2 => calls::add(s, word(b, 1) as u16),
         3 => Called { answer: calls::read(s), session: s },
+        4 => calls::begin_conjunction(s, conjunction_at(b)),
         _ => Called { answer: nothing(), session: Session::empty() },
     }
 }
 
-fn call(s: &mut Session, b: &[u8; 21]) -> Answer {
-    if b[0] == 4 {
+fn call(s: &mut Session, b: &[u8; 29]) -> Answer {
+    if b[0] == 5 {
         return s.begin(encounter_at(b, 1));
     }
-    if b[0] == 5 {
+    if b[0] == 6 {
         return s.add(word(b, 1) as u16);
+    }
+    if b[0] == 7 {
+        return s.begin_conjunction(conjunction_at(b));
     }
     let c = by_value(*s, b);
     *s = c.session;
@@ -201,7 +211,9 @@ fn put_answer(line: &mut [u8], at: usize, a: Answer) -> usize {
     next = put(line, next, a.N);
     next = put_scaled(line, next, a.lower);
     next = put_scaled(line, next, a.upper);
-    put_class(line, next, a.class)
+    next = put_class(line, next, a.class);
+    next = put(line, next, a.object);
+    put(line, next, a.time)
 }
 
 fn put_encounter(line: &mut [u8], at: usize, E: Encounter) -> usize {
@@ -228,6 +240,8 @@ fn put_side(line: &mut [u8], at: usize, s: Side) -> usize {
 
 fn put_session(line: &mut [u8], at: usize, s: Session) -> usize {
     let mut next = put_encounter(line, at, s.encounter);
+    next = put(line, next, s.object);
+    next = put(line, next, s.time);
     next = put(line, next, s.N);
     next = put_side(line, next, s.lower);
     next = put_side(line, next, s.upper);
@@ -237,10 +251,10 @@ fn put_session(line: &mut [u8], at: usize, s: Session) -> usize {
 }
 
 fn main() {
-    let mut record = [0u8; 21];
-    let mut line = [10u8; 505];
+    let mut record = [0u8; 29];
+    let mut line = [10u8; 537];
     let mut s = Session::empty();
-    while io::read_full(0, &mut record) == 21 {
+    while io::read_full(0, &mut record) == 29 {
         let answer = call(&mut s, &record);
         let next = put_answer(&mut line, 0, answer);
         put_session(&mut line, next, s);

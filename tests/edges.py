@@ -1,7 +1,7 @@
-"""Fractions, encounters, orders and scripts with the answer that document 01 gives, and numbers with their decimals."""
+"""Fractions, encounters, orders and scripts with the answer that documents 01 and 02 give, and decimals of numbers."""
 
 from encounters import ALFANO_3, ALFANO_5, FULL, HALF, LARGE, PAST_FULL, TEST_1, THIN
-from records import KINDS, MOST_COUNT, READ, add, begin
+from records import KINDS, MOST_COUNT, READ, add, begin, begin_conjunction
 from reference import LARGEST, LARGEST_N, LONGEST_SCRIPT
 from scaled import LEAST, LIMIT, ONE, ZERO, Scaled
 
@@ -16,6 +16,7 @@ RATIOS = (
 # A call and what it may answer: 0, or a refusal.
 ANSWERS = {
     *(("begin", answer) for answer in (0, 3, 4, 5, 6, 7)),
+    *(("begin_conjunction", answer) for answer in (0, 3, 4, 5, 6, 7, 9)),
     *(("add", answer) for answer in (0, 21, 22)),
     *(("read", answer) for answer in (0, 21, 23)),
 }
@@ -147,6 +148,35 @@ BEGINS = (
 # A begin for each of the refusals 3 to 7.
 REFUSED = [next(inputs for r, inputs in BEGINS if r == refusal) for refusal in range(3, 8)]
 
+# Request #104: object numbers and times, up to the largest ones. The two are never the same number, so that it is seen
+# where they are exchanged.
+OBJECTS = (
+    (25544, 1440),
+    (1, 0),
+    (2, MOST_32),
+    (MOST_32, 3),
+    (1 << 31, HIGH),
+    (0x01020304, 0x0A0B0C0D),
+    (1 << 24, 256),
+    (0, 1440),
+    (0, MOST_32),
+)
+
+
+def conjunctions():
+    """Begins of kind 4, each with its refusal, or 0: those above, with an object number and with 0.
+
+    "It refuses, as 9 after test 7, a kind 4 record whose object number is 0": only one that no earlier test refuses.
+    """
+    for refusal, inputs in BEGINS:
+        for number, time in OBJECTS if inputs == HALF else (OBJECTS[0], OBJECTS[-1]):
+            yield refusal or (9 if number == 0 else 0), (*inputs, number, time)
+
+
+# A begin of kind 4 for each of the refusals 3 to 7, with an object number and with 0, and one that is refused as 9.
+REFUSED_CONJUNCTIONS = [(*inputs, *both) for inputs in REFUSED for both in (OBJECTS[0], OBJECTS[-1])]
+REFUSED_CONJUNCTIONS += [(*HALF, *OBJECTS[-1])]
+
 # The least order that is read.
 LEAST_ORDERS = (
     ("(8, 1, 1, 8, 0)", FULL, 2110),
@@ -155,9 +185,11 @@ LEAST_ORDERS = (
 )
 
 
-# Request #103: encounters with an end at an edge of the decimals, the order, and what the read prints after that.
+# What the read of (10, 10, 10, 0, 0) at N = 3 prints between the order and the object number.
+HALF_AT_3 = "3364829335 -33 3391965302 -33 alert 3.917e-01 3.949e-01"
+# Request #103: encounters with an end at an edge of the decimals, the order, and what the read prints likewise.
 AT_DECIMAL_EDGES = (
-    (HALF, 3, "3364829335 -33 3391965302 -33 alert 3.917e-01 3.949e-01"),
+    (HALF, 3, HALF_AT_3),
     # The upper end is 1 − 2^-32, 1 − 2^-31, 1, the next one above 1, and far above it.
     ((4778498, 1167591, 1167591, 190612, 51940), 19, "4291938013 -32 4294967295 -32 alert 9.992e-01 1.001e-00"),
     ((7136390, 1648935, 1648935, 323971, 41207), 22, "4294020089 -32 4294967294 -32 alert 9.997e-01 1.000e-00"),
@@ -187,6 +219,14 @@ AT_DECIMAL_EDGES = (
 # Scripts, each with its name and its listing.
 
 BEGIN_HALF, BEGIN_FULL = begin(*HALF), begin(*FULL)
+# One of kind 4.
+BEGIN_OBJECT = begin_conjunction(*HALF, *OBJECTS[0])
+
+
+def begins():
+    """The begins above of both kinds, as records, each with its refusal, or 0."""
+    yield from ((refusal, begin(*inputs)) for refusal, inputs in BEGINS)
+    yield from ((refusal, begin_conjunction(*inputs)) for refusal, inputs in conjunctions())
 
 
 def of_document():
@@ -201,7 +241,7 @@ def of_refusals_1_and_2():
         if kind not in KINDS:
             yield f"kind {kind}", BEGIN_HALF + bytes([kind]) + READ, "0 begun 1\n21 refused 1\n"
     yield "kind 9 first", b"\x09" + BEGIN_HALF, "0 refused 1\n"
-    for name, record in ("begin", BEGIN_FULL), ("add", add(1)):
+    for name, record in ("begin", BEGIN_FULL), ("add", add(1)), ("begin of kind 4", BEGIN_OBJECT):
         for length in range(1, len(record)):
             script = BEGIN_HALF + record[:length]
             yield f"{name} with {length - 1} bytes", script, "0 begun 1\n21 refused 2\n"
@@ -238,8 +278,11 @@ def of_lengths():
     for length in LONGEST_SCRIPT - 1, LONGEST_SCRIPT:
         yield f"{length} reads", READ * length, refused(0, length, 21)
         yield f"{length} bytes of kind 0", bytes(length), "0 refused 1\n"
-    at = LONGEST_SCRIPT - len(BEGIN_HALF) + 1
-    yield "the last body is short", READ * at + BEGIN_HALF[:-1], refused(0, at, 21) + f"{at} refused 2\n"
+    for record in BEGIN_HALF, BEGIN_OBJECT:
+        at = LONGEST_SCRIPT - len(record)
+        yield f"the last record has kind {record[0]}", READ * at + record, refused(0, at, 21) + f"{at} begun 1\n"
+        script, lines = READ * (at + 1) + record[:-1], refused(0, at + 1, 21) + f"{at + 1} refused 2\n"
+        yield f"the last body is short, kind {record[0]}", script, lines
     for length in LONGEST_SCRIPT + 1, LONGEST_SCRIPT + 2, 2 * LONGEST_SCRIPT, 1_000_000:
         yield f"{length} reads", READ * length, "0 refused 8\n"
     yield "kind 0, and too long", bytes(LONGEST_SCRIPT + 1), "0 refused 8\n"
@@ -249,11 +292,38 @@ def of_decimals():
     for inputs, N, printed in AT_DECIMAL_EDGES:
         name, script = f"the decimals of {tuple(inputs)} at {N}", begin(*inputs)
         if N == 1:
-            yield name, script + READ, f"0 begun 1\n21 read 1 {printed}\n"
+            yield name, script + READ, f"0 begun 1\n21 read 1 {printed} 0 0\n"
         else:
-            yield name, script + add(N - 1) + READ, f"0 begun 1\n21 added {N}\n24 read {N} {printed}\n"
+            yield name, script + add(N - 1) + READ, f"0 begun 1\n21 added {N}\n24 read {N} {printed} 0 0\n"
+
+
+def of_objects():
+    """Request #104: the object number and the time that a read answers, and which begins change them."""
+    read = f"read 3 {HALF_AT_3}"
+    begun, lines = BEGIN_OBJECT + add(2) + READ, f"0 begun 1\n29 added 3\n32 {read} 25544 1440\n"
+    body = "0a000000 0a000000 0a000000 00000000 00000000 c8630000 a0050000"
+    yield "byte by byte", bytes.fromhex("04" + body) + begun[29:], lines
+    yield "kind 4 alone", BEGIN_OBJECT, "0 begun 1\n"
+    for number, time in OBJECTS:
+        script = begin_conjunction(*HALF, number, time) + add(2) + READ
+        accepted = f"0 begun 1\n29 added 3\n32 {read} {number} {time}\n"
+        due = accepted if number else "0 refused 9\n29 refused 21\n32 refused 21\n"
+        yield f"object {number} at {time}", script, due
+    # Both are kept where a begin is refused, of either kind.
+    for refusal, inputs in zip(range(3, 8), REFUSED):
+        for record in begin(*inputs), begin_conjunction(*inputs, 7, 8), begin_conjunction(*inputs, 0, 8):
+            due = f"{lines}33 refused {refusal}\n{33 + len(record)} {read} 25544 1440\n"
+            yield f"kept after {refusal}, kind {record[0]}", begun + record + READ, due
+    due = f"{lines}33 refused 9\n62 {read} 25544 1440\n"
+    yield "kept after 9", begun + begin_conjunction(*FULL, 0, 8) + READ, due
+    # "After a kind 1 begin both are 0", and after another one of kind 4 they are its own.
+    again = f"{lines}33 begun 1\n54 added 3\n57 {read} 0 0\n"
+    yield "kind 1 after kind 4", begun + BEGIN_HALF + add(2) + READ, again
+    script = begun + begin_conjunction(*HALF, 1440, 25544) + add(2) + READ
+    yield "kind 4 after kind 4", script, f"{lines}33 begun 1\n62 added 3\n65 {read} 1440 25544\n"
+    yield "no kind 5", begun + b"\x05" + BEGIN_OBJECT[1:], f"{lines}33 refused 1\n"
 
 
 def scripts():
-    for part in of_document, of_refusals_1_and_2, of_the_state, of_decimals, of_lengths:
+    for part in of_document, of_refusals_1_and_2, of_the_state, of_decimals, of_objects, of_lengths:
         yield from part()

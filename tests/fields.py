@@ -16,9 +16,13 @@ ANSWER = [
     ("answer.N", False),
     *scaled_fields(["answer.lower", "answer.upper"]),
     ("answer.class", False),
+    ("answer.object", False),
+    ("answer.time", False),
 ]
 SESSION = [
     *[(name, name.endswith("m")) for name in INPUTS],
+    ("object", False),
+    ("time", False),
     ("N", False),
     *scaled_fields(f"{side}.{name}" for side in ("lower", "upper") for name in SIDE),
     *scaled_fields(["r256", "M", "d"]),
@@ -31,12 +35,15 @@ def side_numbers(side):
 
 
 def answer_numbers(answer):
-    return [answer.refusal, answer.N, *answer.lower, *answer.upper, CLASSES.index(answer.class_name)]
+    class_ = CLASSES.index(answer.class_name)
+    return [answer.refusal, answer.N, *answer.lower, *answer.upper, class_, answer.object, answer.time]
 
 
 def session_numbers(session):
     return [
         *(getattr(session, name) for name in INPUTS),
+        session.object,
+        session.time,
         session.N,
         *side_numbers(session.lower),
         *side_numbers(session.upper),

@@ -1,11 +1,13 @@
-/* Lends a session with words behind it to begin and add, and exits with 1 where one of these words was written or the header's session has padding: so the
- * header's session is as large as the library's, or larger. That it is not larger: tests/texts.py holds its words to those of fields.py, which tests/bindings.py
- * compares with the library's. */
+/* Lends a session with words behind it to both begins and to add, and exits with 1 where one of these words was written: so the header's session is as large as
+ * the library's, or larger. That it is not larger: tests/texts.py holds its words to those of fields.py, which tests/bindings.py compares with the library's.
+ * A session, a conjunction or an answer of the header that has padding does not compile here. */
 #include <string.h>
 
 #include "jinthuol.h"
 
 typedef char session_has_no_padding[sizeof(jinthuol_session) == sizeof(((jinthuol_session *)0)->words) ? 1 : -1];
+typedef char conjunction_has_7_words[sizeof(jinthuol_conjunction) == 28 ? 1 : -1];
+typedef char answer_has_9_words[sizeof(jinthuol_answer) == 36 ? 1 : -1];
 
 static const uint32_t behind[64] = {0x5a5a5a5a, 1, 0xffffffff, 2, 0, 3, 0x80000000, 4};
 
@@ -16,10 +18,14 @@ int main(void)
         uint32_t guard[64];
     } lent;
     jinthuol_encounter encounter = {500, 5000, 100, 1000, 0};
+    jinthuol_conjunction conjunction = {encounter, 25544, 1440};
 
     memcpy(lent.guard, behind, sizeof behind);
     lent.session = jinthuol_empty();
     if (jinthuol_begin(&lent.session, encounter).N != 1 || jinthuol_add(&lent.session, 54).N != 55) {
+        return 1;
+    }
+    if (jinthuol_begin_conjunction(&lent.session, conjunction).N != 1 || jinthuol_add(&lent.session, 54).N != 55) {
         return 1;
     }
     return memcmp(lent.guard, behind, sizeof behind) != 0;

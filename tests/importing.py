@@ -198,14 +198,27 @@ def is_next(x, exact, up):
     return on_its_side and (nearer is None or sign * nearer < sign * exact or here == exact)
 
 
+# Test 1 with 55 terms.
+AT_55 = "N = 55: 2627622691 × 2^-35 to 2627623074 × 2^-35, alert, 7.647e-02 to 7.648e-02"
+
+
 def of_answers(module):
     session, wrong, test_1 = module.Session.empty(), (0, 1, 1, 0, 0), (500, 5000, 100, 1000, 0)
+    conjunction = module.Conjunction(module.Encounter(*test_1), object=25544, time=1440)
     for answer, due in (
         (session.read(), "refused 21: add or read with no encounter begun"),
         (session.begin(module.Encounter(*wrong)), "refused 3: R is 0 or above 10,000,000"),
         (session.begin(module.Encounter(*test_1)), "N = 1"),
         (session.add(54), "N = 55"),
-        (session.read(), "N = 55: 2627622691 × 2^-35 to 2627623074 × 2^-35, alert, 7.647e-02 to 7.648e-02"),
+        (session.read(), AT_55),
+        (session.begin_conjunction(conjunction._replace(object=0)), "refused 9: kind 4: object number is 0"),
+        (session.read(), AT_55),
+        (session.begin_conjunction(conjunction), "N = 1"),
+        (session.add(54), "N = 55"),
+        (session.read(), f"{AT_55}, object 25544 at minute 1440"),
+        (session.begin(conjunction.encounter), "N = 1"),
+        (session.add(54), "N = 55"),
+        (session.read(), AT_55),
     ):
         checks.check(str(answer) == due, "answers", f"printed: {answer}, due: {due}")
     for (inputs, _, _, name), number in zip(AT_THRESHOLD, (2, 1, 0, 2), strict=True):
@@ -216,10 +229,16 @@ def of_answers(module):
         checks.check(named == (number, name, name), "answers", f"class of {inputs}: {named}")
     answer = session.read()
     both = "lower=Scaled(m=2627622691, e=-35), upper=Scaled(m=2627623074, e=-35)"
-    checks.check(repr(answer) == f"Answer(refusal=0, N=55, {both}, class_=1)", "answers", f"repr: {answer!r}")
+    due = f"Answer(refusal=0, N=55, {both}, class_=1, object=0, time=0)"
+    checks.check(repr(answer) == due, "answers", f"repr: {answer!r}")
     checks.check(answer == session.read() and answer != session.add(0), "answers", "equal answers")
     floats = answer.lower.m * 2.0**-35, answer.upper.m * 2.0**-35
     checks.check(answer.floats == floats, "answers", f"floats: {answer.floats}")
+    other = module.Session.empty()
+    other.begin_conjunction(conjunction)
+    other.add(54)
+    ok = answer != other.read() and (other.read().object, other.read().time) == (25544, 1440)
+    checks.check(ok and session.kept != other.kept, "answers", f"of an object: {other.read()!r}")
     checks.check(module.REFUSALS == REFUSALS, "answers", "texts of the refusals")
     for number in REFUSALS:
         printed = str(module.Answer(refusal=number))

@@ -21,6 +21,9 @@ KINDS = {
     1: Kind("begin", struct.Struct("<IIIii"), "begun"),
     2: Kind("add", struct.Struct("<H"), "added"),
     3: Kind("read", struct.Struct("<"), "read"),
+    # Request #104: "A begin of kind 4 has the body of kind 1, then an object number and a time of closest approach,
+    # both unsigned 32-bit".
+    4: Kind("begin_conjunction", struct.Struct("<IIIiiII"), "begun"),
 }
 # The largest count of an add.
 MOST_COUNT = (1 << 16) - 1
@@ -41,6 +44,10 @@ def add(count):
 READ = packed(3)
 
 
+def begin_conjunction(R, sx, sy, xm, ym, object, time):
+    return packed(4, R, sx, sy, xm, ym, object, time)
+
+
 class Record(NamedTuple):
     """A record: its position, then refusal 1 or 2, or the kind and the inputs of its call."""
 
@@ -48,6 +55,11 @@ class Record(NamedTuple):
     refusal: int
     kind: Kind = None
     inputs: tuple = ()
+
+    @property
+    def encounter(self):
+        """The five inputs of a begin, or None."""
+        return self.inputs[:5] if self.kind and self.kind.said == "begun" else None
 
     def called(self, session):
         """The answer of its call."""
@@ -96,6 +108,8 @@ def line(record, answer):
         # Request #103: "The read line should offer each end as four significant digits and a power of ten. Anything a
         # ticket adds to the read line or to a read's answer is printed at the line's end, in ticket order."
         words += [decimal_text(False, answer.lower), decimal_text(True, answer.upper)]
+        # Request #104: "a read answers both", the object number and the time.
+        words += [answer.object, answer.time]
     return " ".join(map(str, words)) + "\n"
 
 
@@ -114,7 +128,7 @@ def printed(line):
         return Answer(int(rest[0]))
     if said == "read":
         N, ml, el, mh, eh = map(int, rest[:5])
-        return Answer(0, N, (ml, el), (mh, eh), rest[5])
+        return Answer(0, N, (ml, el), (mh, eh), rest[5], *map(int, rest[8:10]))
     return Answer(N=int(rest[0]))
 
 

@@ -1,4 +1,4 @@
-"""The rounded steps, the session and the calls of document 01.
+"""The rounded steps, the session and the calls of document 01, as requests #101 to #104 change them.
 
 A scaled number is a pair (m, e), as in rounded.py. records.py has the script and its listing.
 """
@@ -21,16 +21,17 @@ EXPONENTIAL_CUT = 256
 # Request #101: "Alert remains where the lower end × 10,000 ≥ 1. Clear now needs the upper end × 10,000 below 1."
 THRESHOLD_FACTOR = 10_000
 
-# Both tables of refusals, in their order.
+# Both tables of refusals, in their order, with what request #104 adds: "Kind 4 joins the accepted kinds in refusal 1."
 REFUSALS = {
     8: "script file longer than 65,536 bytes",
-    1: "no kind byte, or kind is not 1, 2 or 3",
+    1: "no kind byte, or kind is not 1, 2, 3 or 4",
     2: "body shorter than its kind needs",
     3: "R is 0 or above 10,000,000",
     4: "sx or sy is 0 or above 10,000,000",
     5: "sy above sx",
     6: "a miss outside −10,000,000 to 10,000,000",
     7: "upper t above 64",
+    9: "kind 4: object number is 0",
     21: "add or read with no encounter begun",
     22: "add: N + count above 4,096",
     23: "read: 2M above N + 2",
@@ -125,6 +126,9 @@ class Answer(NamedTuple):
     lower: tuple = ZERO
     upper: tuple = ZERO
     class_name: str = "clear"
+    # Request #104: "a read answers both".
+    object: int = 0
+    time: int = 0
 
 
 def class_of(lower, upper):
@@ -132,6 +136,19 @@ def class_of(lower, upper):
     if at_least(lower, 1, THRESHOLD_FACTOR):
         return "alert"
     return "open" if at_least(upper, 1, THRESHOLD_FACTOR) else "clear"
+
+
+def refusal_of(R, sx, sy, xm, ym):
+    """Tests 3 to 7: the number of the first that refuses the five inputs, or 0."""
+    if R == 0 or R > LARGEST:
+        return 3
+    if sx == 0 or sx > LARGEST or sy == 0 or sy > LARGEST:
+        return 4
+    if sy > sx:
+        return 5
+    if abs(xm) > LARGEST or abs(ym) > LARGEST:
+        return 6
+    return 7 if above(first(UP, R, sx, sy, xm, ym).t, LARGEST_T) else 0
 
 
 # "It starts empty, with zero in every field." An encounter is begun just where N is not 0.
@@ -142,6 +159,9 @@ class Session:
     sy: int = 0
     xm: int = 0
     ym: int = 0
+    # Request #104: "The session keeps both", the object number and the time of closest approach.
+    object: int = 0
+    time: int = 0
     N: int = 0
     lower: Side = field(default_factory=Side)
     upper: Side = field(default_factory=Side)
@@ -151,21 +171,25 @@ class Session:
     d: tuple = ZERO
 
     def begin(self, R, sx, sy, xm, ym):
-        if R == 0 or R > LARGEST:
-            return Answer(3)
-        if sx == 0 or sx > LARGEST or sy == 0 or sy > LARGEST:
-            return Answer(4)
-        if sy > sx:
-            return Answer(5)
-        if abs(xm) > LARGEST or abs(ym) > LARGEST:
-            return Answer(6)
-        upper = first(UP, R, sx, sy, xm, ym)
-        if above(upper.t, LARGEST_T):
-            return Answer(7)
-        lower = first(DOWN, R, sx, sy, xm, ym)
+        """The begin of kind 1."""
+        # Request #104: "After a kind 1 begin both are 0."
+        return self._begun(refusal_of(R, sx, sy, xm, ym), R, sx, sy, xm, ym, 0, 0)
+
+    def begin_conjunction(self, R, sx, sy, xm, ym, object, time):
+        """The begin of kind 4."""
+        refusal = refusal_of(R, sx, sy, xm, ym)
+        # Request #104: "It refuses, as 9 after test 7, a kind 4 record whose object number is 0."
+        if refusal == 0 and object == 0:
+            refusal = 9
+        return self._begun(refusal, R, sx, sy, xm, ym, object, time)
+
+    def _begun(self, refusal, R, sx, sy, xm, ym, object, time):
+        if refusal:
+            return Answer(refusal)
+        lower, upper = first(DOWN, R, sx, sy, xm, ym), first(UP, R, sx, sy, xm, ym)
         lower.exponential, _ = exponential(DOWN, lower.t)
         upper.exponential, self.r256 = exponential(UP, upper.t)
-        self.R, self.sx, self.sy, self.xm, self.ym = R, sx, sy, xm, ym
+        self.R, self.sx, self.sy, self.xm, self.ym, self.object, self.time = R, sx, sy, xm, ym, object, time
         self.lower, self.upper = lower, upper
         self.M = UP.plus(UP.plus(UP.plus(upper.u, halved(upper.h)), upper.X), upper.Y)
         self.d = upper.c
@@ -196,7 +220,7 @@ class Session:
             return Answer(23)
         lower = DOWN.quotient(self.lower.sum, UP.plus(self.upper.exponential, doubled(self.r256)))
         upper = UP.quotient(UP.plus(self.upper.sum, self.tail_bound()), self.lower.exponential)
-        return Answer(0, self.N, lower, upper, class_of(lower, upper))
+        return Answer(0, self.N, lower, upper, class_of(lower, upper), self.object, self.time)
 
     def tail_bound(self):
         """The upper side's 2d(N)."""

@@ -26,9 +26,9 @@ import fields
 import options
 import orders
 from checks import Checks, shortened
-from edges import BEGIN_FULL, BEGIN_HALF
-from encounters import ALFANO_3, ALFANO_5, AT_THRESHOLD, DOCUMENTS, FULL, SMALL, TEST_1
-from records import READ, add, begin, listing, printed, printed_decimals
+from edges import BEGIN_FULL, BEGIN_HALF, BEGIN_OBJECT, MOST_32
+from encounters import ALFANO_3, ALFANO_5, AT_THRESHOLD, DOCUMENTS, FULL, HALF, SMALL, TEST_1
+from records import READ, add, begin, begin_conjunction, listing, packed, printed, printed_decimals
 from reference import LARGEST, LARGEST_N, LARGEST_T, LONGEST_SCRIPT, Answer
 
 EXAMPLES = options.ROOT / "examples"
@@ -132,11 +132,12 @@ def of_edges():
     calls = READ + add(N - 2) + READ + add(1) + READ + add(LARGEST_N - N) + READ
     compare("xm = -8", begin(*FULL._replace(xm=-8)) + calls, compare("xm = 8", BEGIN_FULL + calls))
     # Each begin stands between an encounter and an add of 0, which answers the earlier order.
-    for refusal, inputs in edges.BEGINS:
-        found = compare(f"begin {inputs}", BEGIN_HALF + add(2) + begin(*inputs) + add(0) + READ)
-        due = [f"24 refused {refusal}", "45 added 3"] if refusal else ["24 begun 1", "45 added 1"]
-        check(found.splitlines()[2:4] == due, f"begin {inputs}: {found}")
-        compare(f"begin {inputs} first", begin(*inputs) + add(0) + READ)
+    for refusal, record in edges.begins():
+        found = compare(f"begin {record.hex()}", BEGIN_OBJECT + add(2) + record + add(0) + READ)
+        at = 32 + len(record)
+        due = [f"32 refused {refusal}", f"{at} added 3"] if refusal else ["32 begun 1", f"{at} added 1"]
+        check(found.splitlines()[2:4] == due, f"begin {record.hex()}: {found}")
+        compare(f"begin {record.hex()} first", record + add(0) + READ)
 
 
 def of_examples():
@@ -159,7 +160,8 @@ def of_examples():
 
 def of_long_work():
     """The longest listing and the longest work."""
-    compare("an encounter and reads", BEGIN_HALF + READ * (LONGEST_SCRIPT - len(BEGIN_HALF)))
+    first = begin_conjunction(*HALF, MOST_32, MOST_32 - 1)
+    compare("an encounter and reads", first + READ * (LONGEST_SCRIPT - len(first)))
     # Encounters of the largest order, one after another. reference.py would take minutes; only the offsets differ here.
     one = BEGIN_FULL + add(LARGEST_N - 1)
     times = LONGEST_SCRIPT // len(one)
@@ -179,7 +181,7 @@ def of_drawn(rng):
     # One encounter each: a read at every order up to 40, and at some later ones.
     for n in range(150):
         inputs = drawn.encounter(rng)
-        script = begin(*inputs) + (READ + add(1)) * 40
+        script = packed(*drawn.begin_inputs(rng, inputs)) + (READ + add(1)) * 40
         for _ in range(5):
             script += add(rng.randrange(100)) + READ
         compare(f"encounter {inputs}", script)
@@ -209,6 +211,7 @@ def of_cut_short(rng):
     script = READ + BEGIN_HALF + READ + add(3) + READ + begin(*edges.REFUSED[0]) + add(258) + READ + add(LARGEST_N - 1)
     script += begin(*TEST_1) + add(34) + READ + add(1) + READ + begin(1, 2, 3, 0, 0) + READ
     script += begin(*SMALL) + add(0) + READ + begin(*ALFANO_5) + add(30) + READ + BEGIN_FULL + READ
+    script += BEGIN_OBJECT + READ + begin_conjunction(*edges.REFUSED_CONJUNCTIONS[-1]) + READ + BEGIN_HALF + READ
     script += drawn.script(rng, 12, 300)
     for length in range(len(script) + 1):
         compare(f"cut short at {length}", script[:length])
@@ -216,11 +219,11 @@ def of_cut_short(rng):
 
 def of_pipes(rng):
     """Short reads: the program gets what one write brought, and must go on to the end. Then short writes."""
-    script = BEGIN_FULL + READ + add(2109) + READ + BEGIN_HALF + READ + begin(*ALFANO_3) + add(596) + READ + add(1)
+    script = BEGIN_FULL + READ + add(2109) + READ + BEGIN_OBJECT + READ + begin(*ALFANO_3) + add(596) + READ + add(1)
     for name, bytes_, pieces, pause in (
         ("one byte at a time", script, (1,), 0.002),
         ("pieces of 1 to 7 bytes", script, (1, 7, 3, 2), 0.004),
-        ("pieces cut at record ends", script, (21, 1, 3, 1, 21, 1), 0.01),
+        ("pieces cut at record ends", script, (21, 1, 3, 1, 29, 1), 0.01),
         ("one piece, then a pause", BEGIN_HALF, (len(BEGIN_HALF),), 0.05),
         ("cut short within a body", script[:40], (5,), 0.004),
         ("the longest", READ * LONGEST_SCRIPT, (4096, 1, 4095), 0.002),

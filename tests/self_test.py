@@ -135,7 +135,7 @@ def of_steps(rng):
         session = orders.at_order(inputs, N)
         lower, _, _, _ = steps(False, *inputs, N)
         upper, r256, M, d = steps(True, *inputs, N)
-        due = Session(*inputs, N, lower, upper, r256, M, d)
+        due = Session(*inputs, 0, 0, N, lower, upper, r256, M, d)
         checks.check(session == due, "sessions", f"the steps for {inputs} at {N}")
         answer = session.read()
         if answer.refusal == 0:
@@ -275,12 +275,22 @@ def of_calls(rng):
     for count in 0, MOST_COUNT:
         call(empty.add(count) == Answer(21) and empty == Session(), f"21 for add {count}")
     call(empty.read() == Answer(21) and empty == Session(), "21 for read")
-    for refusal, inputs in edges.BEGINS:
-        session = orders.at_order(SMALL, 3)
-        kept = copy.deepcopy(session)
-        answer = session.begin(*inputs)
-        call(answer == (Answer(refusal) if refusal else Answer(N=1)), f"begin {inputs}: {answer}")
-        call((session == kept) == (refusal != 0), f"the session after begin {inputs}")
+    begins = [("begin", *one) for one in edges.BEGINS]
+    begins += [("begin_conjunction", *one) for one in edges.conjunctions()]
+    for kind, refusal, inputs in begins:
+        session = Session()
+        session.begin_conjunction(*SMALL, 11, 12)
+        call(session.add(2) == Answer(N=3), "an add with an object")
+        # A refusal keeps all of it; else nothing of it is left.
+        due = copy.deepcopy(session) if refusal else orders.begun(inputs[:5])
+        if not refusal:
+            due.object, due.time = inputs[5:] or (0, 0)
+        answer = getattr(session, kind)(*inputs)
+        call(answer == (Answer(refusal) if refusal else Answer(N=1)), f"{kind} {inputs}: {answer}")
+        call(session == due, f"the session after {kind} {inputs}")
+        read = session.read()
+        both = (0, 0) if read.refusal else (due.object, due.time)
+        call((read.object, read.time) == both, f"the read after {kind} {inputs}: {read}")
     session = orders.begun(HALF)
     kept = copy.deepcopy(session)
     call(session.add(LARGEST_N) == Answer(22) and session == kept, "22")

@@ -1,10 +1,10 @@
 #!/usr/bin/env python3
-"""Compares the calls begin, add and read of crate `encounter` with reference.py.
+"""Compares the calls begin, begin_conjunction, add and read of crate `encounter` with reference.py.
 
     python3 tests/sessions.py [--root FOLDER] [--seed N]
 
 After each call every field of the answer and every number of the session is compared. scratch.py runs a
-program that keeps a session and makes the calls; every other begin and every other add is the call on a lent session.
+program that keeps a session and makes the calls; of the first three every other one is the call on a lent session.
 Short sequences of calls run interpreted and compiled; the long ones run compiled, and on the interpreter as far as it
 gets.
 """
@@ -41,10 +41,9 @@ from encounters import (
     THIN,
     WIDE,
 )
-from exact_series import Encounter
-from records import MOST_COUNT
-from reference import THRESHOLD_FACTOR, LARGEST, LARGEST_N, Answer, Session
-from rounded import DOWN, UP
+from records import KINDS, MOST_COUNT
+from reference import LARGEST, LARGEST_N, Answer, Session
+from rounded import UP
 
 # The calls.
 
@@ -66,9 +65,12 @@ NUMBERS = {
     ("begin", False): 1,
     ("add", False): 2,
     ("read", False): 3,
-    ("begin", True): 4,
-    ("add", True): 5,
+    ("begin_conjunction", False): 4,
+    ("begin", True): 5,
+    ("add", True): 6,
+    ("begin_conjunction", True): 7,
 }
+BEGINS = ("begin", "begin_conjunction")
 EMPTY = Call("empty")
 READ = Call("read")
 
@@ -77,12 +79,16 @@ def begin(*inputs):
     return Call("begin", inputs)
 
 
+def begin_conjunction(*inputs):
+    return Call("begin_conjunction", inputs)
+
+
 def add(count):
     return Call("add", (count,))
 
 
 def record(call):
-    return struct.pack("<BIIIii", NUMBERS[call.kind, call.lent], *(*call.inputs, 0, 0, 0, 0, 0)[:5])
+    return struct.pack("<BIIIiiII", NUMBERS[call.kind, call.lent], *(*call.inputs, 0, 0, 0, 0, 0, 0, 0)[:7])
 
 
 def line(answer, session):
@@ -113,8 +119,13 @@ def in_pieces(calls, size):
         yield calls[i : i + size]
 
 
+# Begins of both kinds that are refused.
+REFUSED = [begin(*inputs) for inputs in edges.REFUSED]
+REFUSED += [begin_conjunction(*inputs) for inputs in edges.REFUSED_CONJUNCTIONS]
+
+
 def on_empty(rng):
-    refused = [[begin(*inputs), READ, add(0), add(1)] for inputs in edges.REFUSED]
+    refused = [[call, READ, add(0), add(1)] for call in REFUSED]
     calls = [READ, add(0), add(1), add(LARGEST_N), add(MOST_COUNT), READ, *itertools.chain(*refused)]
     yield [*calls, begin(*SMALL), add(2)]
 
@@ -123,6 +134,29 @@ def at_limits(rng):
     """The limits of tests 3 to 6, alone and together, over an earlier encounter that a refusal must keep."""
     for tried in in_pieces(list(encounters.at_limits()), 25):
         yield [begin(*SMALL), add(3), *(call for inputs in tried for call in (begin(*inputs), add(1))), READ]
+
+
+def of_objects(rng):
+    """Object numbers and times: each begin of kind 4, then begins of both kinds in turn, with reads.
+
+    A refusal must keep those of the earlier encounter, and so must an add.
+    """
+    conjunctions = [begin_conjunction(*inputs) for _, inputs in edges.conjunctions()]
+    # In any order, so that those with an object number of 0 are not always lent, or never.
+    rng.shuffle(conjunctions)
+    for tried in in_pieces(conjunctions, 24):
+        calls = [call for one in tried for call in (one, add(2), READ)]
+        yield [begin_conjunction(*SMALL, 11, 12), add(3), *calls]
+    for _ in range(4):
+        begins = [drawn_begin(rng, drawn.accepted(rng)) for _ in range(6)] + rng.choices(REFUSED, k=9)
+        rng.shuffle(begins)
+        yield [call for one in begins for call in (one, add(rng.randint(0, 3)), READ)]
+
+
+def drawn_begin(rng, encounter):
+    """A begin of either kind."""
+    kind, *inputs = drawn.begin_inputs(rng, encounter)
+    return Call(KINDS[kind].call, tuple(inputs))
 
 
 def sums_of_squares(n):
@@ -207,9 +241,9 @@ def random_encounters(rng):
 def random_call(rng, most):
     draw = rng.random()
     if draw < 0.15:
-        return begin(*drawn.encounter(rng))
+        return drawn_begin(rng, drawn.encounter(rng))
     if draw < 0.25:
-        return begin(*rng.choice(edges.REFUSED))
+        return rng.choice(REFUSED)
     if draw < 0.30:
         return add(rng.randint(LARGEST_N, MOST_COUNT))
     if draw < 0.70:
@@ -225,6 +259,7 @@ def random_calls(rng):
 SHORT = [
     on_empty,
     at_limits,
+    of_objects,
     at_test_7,
     at_zeros,
     at_test_23,
@@ -237,9 +272,10 @@ SHORT = [
 
 def to_largest(rng):
     """To the largest N in one add, in some, and one by one; then the adds that test 22 refuses."""
-    last = [READ, add(0), add(1), add(MOST_COUNT), READ, begin(*edges.REFUSED[0]), READ]
+    last = [READ, add(0), add(1), add(MOST_COUNT), READ, REFUSED[0], READ, REFUSED[-1], READ]
     for inputs in HALF, FULL, LARGE, WIDE, THIN, ALFANO_3, drawn.accepted(rng):
-        yield [begin(*inputs), add(LARGEST_N), add(MOST_COUNT), add(LARGEST_N - 1), *last, begin(*SMALL), READ]
+        first = [begin_conjunction(*inputs, 25544, 1440), add(LARGEST_N), add(MOST_COUNT), add(LARGEST_N - 1)]
+        yield [*first, *last, begin(*SMALL), READ]
     yield [begin(*SMALL), add(LARGEST_N - 2), add(2), add(1), *last]
     for _ in range(4):
         calls, n = [begin(*drawn.accepted(rng))], 1
@@ -279,7 +315,7 @@ RUN_STEPS = scratch.MOST_STEPS * 95 // 100
 def steps(one):
     if one.answer.refusal:
         return CALL_STEPS
-    if one.call.kind == "begin":
+    if one.call.kind in BEGINS:
         return CALL_STEPS + BEGIN_STEPS
     return CALL_STEPS + (TERM_STEPS * one.call.inputs[0] if one.call.kind == "add" else 0)
 
@@ -305,7 +341,7 @@ def before(run, first):
     held = Session()
     for one in run[start + 1 : first]:
         getattr(held, one.call.kind)(*one.call.inputs)
-    inputs = tuple(getattr(held, name) for name in fields.INPUTS)
+    inputs = tuple(getattr(held, name) for name in (*fields.INPUTS, "object", "time"))
     return "at N = %d of %s, after %d calls, the last %s" % (held.N, inputs, len(calls), ", ".join(calls[-4:]))
 
 
@@ -320,10 +356,10 @@ def compare(folder, run, long):
 
 
 def every_other_lent(calls, counts):
-    """The calls, with every other begin and every other add on a lent session."""
+    """The calls; every other one of a kind that takes a lent session has one."""
     for call in calls:
         counts[call.kind] += 1
-        yield call._replace(lent=call.kind in ("begin", "add") and counts[call.kind] % 2 == 0)
+        yield call._replace(lent=(call.kind, True) in NUMBERS and counts[call.kind] % 2 == 0)
 
 
 def sequences(parts, seed):
@@ -352,7 +388,7 @@ def main():
     due = {(kind, lent, answer) for kind, answer in edges.ANSWERS for lent in (False, True) if (kind, lent) in NUMBERS}
     if answered != due:
         sys.exit("sessions: answers that no call had, or that none may have: %s" % sorted(answered ^ due))
-    begins = sum(one.call.kind == "begin" and one.answer.refusal == 0 for one in calls)
+    begins = sum(one.call.kind in BEGINS and one.answer.refusal == 0 for one in calls)
     lent = sum(one.call.lent for one in calls)
     print("sessions: %d calls of %d encounters agree, %d of them on a lent session" % (len(calls), begins, lent))
 

@@ -96,6 +96,8 @@ NAMES = {
     "lower-end": (2, lambda E, N: pair(at(E, N).read().lower)),
     "upper-end": (2, lambda E, N: pair(at(E, N).read().upper)),
     "begins": (1, lambda E: lambda session: begun(E)),
+    # The encounter with an object number and a time of 0, as a begin of kind 1 has it.
+    "no-object": (1, lambda E: E),
     "state": (2, at),
     "call": (2, lambda c, session: {"answer": c(session)}),
 }

@@ -5,8 +5,8 @@
 
 The table of refusals in the definitions, README.md, docs/READING.md, the header, the C example, Rust and Python; the
 session's size and the version in each language; the tables of examples/*.md, whose decimals are those of the listings,
-and the orders that their texts give; the listing, the bytes and the decimals of README.md; the titles of the documents
-that are cited. Exits with 1 where anything differs.
+and what their texts say of orders, lines and bytes; the listing, the bytes and the decimals of README.md; the titles of
+the documents that are cited. Exits with 1 where anything differs.
 """
 
 import math
@@ -129,10 +129,10 @@ def of_decimals():
 
 def said(record):
     """A record in the words of the table."""
-    if record.refusal:
-        return None
-    inputs = ", ".join(map(str, record.inputs))
-    return {"begin": f"begin ({inputs})", "add": f"add {inputs}", "read": "read"}[record.kind.call]
+    if record.encounter:
+        of_object = ", object %d at minute %d" % record.inputs[5:] if len(record.inputs) > 5 else ""
+        return f"begin ({', '.join(map(str, record.encounter))}){of_object}"
+    return " ".join([record.kind.call, *map(str, record.inputs)])
 
 
 def rows(script, listing):
@@ -145,9 +145,10 @@ def rows(script, listing):
             said_of_it = f"refused {answer.refusal}"
         elif word == "read":
             said_of_it = f"{decimal(False, answer.lower)} to {decimal(True, answer.upper)}, {answer.class_name}"
+            said_of_it += f", object {answer.object} at minute {answer.time}" if answer.object else ""
         else:
             order, said_of_it = answer.N, word
-        text = said(record) or f"a byte {script[record.position]}"
+        text = f"a byte {script[record.position]}" if record.refusal else said(record)
         yield f"| {line.split()[0]} | {text} | {order} | {said_of_it} |"
 
 
@@ -165,10 +166,14 @@ def of_examples():
     checks.check(closed > 4, "examples", f"orders from which a bracket is close: {closed}")
 
 
+def encounters_of(script):
+    """The encounter of each begin."""
+    return [Encounter(*record.encounter) for record in records.records(script) if record.encounter]
+
+
 def of_orders(stem, text, script):
     """'From N on the tail bound is at most 2^-31': N is the least such order of an encounter of the script."""
-    begins = [record.inputs for record in records.records(script) if len(record.inputs) == 5]
-    begun = [Encounter(*inputs) for inputs in begins if Session().begin(*inputs).refusal == 0]
+    begun = list(filter(orders.begun, encounters_of(script)))
     found = [int(N) for N in re.findall(r"From (\d+) (?:terms )?on the tail bound is at most 2\^-31", text)]
     for N in found:
         closes = [[brackets.is_close(orders.at_order(E, n)) for n in (N - 1, N)] for E in begun]
@@ -184,12 +189,16 @@ def of_readme():
     script = (EXAMPLES / "test-1.script").read_bytes()
     same("README", "the listing", blocks(section("First command"))[1], test_1)
     line = blocks(section("A line of a listing"))[0]
-    checks.check(len(line) == 1 and line[0] in test_1, "README", f"the line: {line}")
+    listed_lines = [line for path in EXAMPLES.glob("*.listing") for line in path.read_text().splitlines()]
+    checks.check(len(line) == 1 and line[0] in listed_lines, "README", f"the line: {line}")
     answer = records.printed(line[0])
     due = [f"{m} {e}" for m, e in (answer.lower, answer.upper)]
     due += [records.decimal_text(False, answer.lower), records.decimal_text(True, answer.upper)]
-    for part in line[0].split()[0], answer.N, answer.class_name, *due:
+    for part in line[0].split()[0], answer.N, answer.class_name, *due, answer.object, answer.time:
         checks.check(f"| `{part}` |" in README, "README", f"the field {part}")
+    kinds = re.findall(r"^\| (\d) \| [^|]+ \| (\d+) \|", section("A script, byte by byte"), re.M)
+    due = [(str(kind), str(1 + of.body.size)) for kind, of in records.KINDS.items()]
+    same("README", "the kinds and their bytes", kinds, due)
     bytes_ = blocks(section("A script, byte by byte"))[0][0]
     same("README", "the bytes", bytes_.split(), script[:21].hex(" ").split())
     checks.check(f"`{script[1:5].hex(' ')}` | R = 244 + 1 × 256 = 500" in README, "README", "the bytes of R")
@@ -233,7 +242,6 @@ def of_readme():
     checks.check(text in README and stays, "README", text)
     of_figures()
     of_printed_ends()
-    of_printed_examples()
     of_classes()
     of_titles("README.md", README)
 
@@ -289,17 +297,40 @@ def listed(stem):
     return {int(line.split()[0]): line for line in lines}
 
 
-def of_printed_examples():
-    """What examples/decimals.md says: 'at byte N' and then what that line ends with, for each read."""
-    text, lines = (EXAMPLES / "decimals.md").read_text(), listed("decimals")
+def of_printed_lines(stem):
+    """What a text says of each read: 'at byte N' and then what that line ends with, but for no object and no time."""
+    text, lines = (EXAMPLES / f"{stem}.md").read_text(), listed(stem)
     said = re.findall(r"[Aa]t byte (\d+)[^`]*`([^`]*)`", text)
     reads = [offset for offset, line in lines.items() if line.split()[1] == "read"]
-    same("examples", "decimals, the reads", [int(offset) for offset, _ in said], reads)
+    same("examples", f"{stem}, the reads", [int(offset) for offset, _ in said], reads)
     for offset, words in said:
-        checks.check(lines[int(offset)].endswith(f" {words}"), "examples", f"decimals at {offset}: {words}")
+        ends = lines[int(offset)].endswith((f" {words}", f" {words} 0 0"))
+        checks.check(ends, "examples", f"{stem} at {offset}: {words}")
+    return text, lines
+
+
+def of_printed_examples():
+    text, lines = of_printed_lines("decimals")
     below = 1 - 10_000 * value(records.printed(lines[79]).upper)
     words = "below 1/10,000 by less than three parts in ten thousand million"
     checks.check(words in text and 0 < below < Fraction(3, 10**10), "examples", f"decimals: {words}")
+    _, lines = of_printed_lines("refused-object")
+    # 'all its numbers are those of the read before the refusal'
+    same("examples", "refused-object, the refusal", lines[62].split()[1:], lines[32].split()[1:])
+    text, lines = of_printed_lines("shift")
+    script = (EXAMPLES / "shift.script").read_bytes()
+    same("examples", "shift, the bytes", blocks(text)[0][0].split(), script[:29].hex(" ").split())
+    hours = re.findall(r"minute (\d+) is (\d\d):(\d\d)", text)
+    found = [(int(minute), 60 * int(hour) + int(rest)) for minute, hour, rest in hours]
+    times = {answer.time for answer in map(records.printed, lines.values()) if answer.object}
+    same("examples", "shift, the hours", sorted(found), sorted((time, time) for time in times))
+    # '3M + 13 terms, taken up to a whole number': the order of the last read of each encounter.
+    last = []
+    for line in lines.values():
+        _, word, N, *_ = line.split()
+        last = [*last, 0] if word == "begun" else [*last[:-1], int(N)]
+    due = [math.ceil(3 * value(orders.begun(encounter).M) + 13) for encounter in encounters_of(script)]
+    same("examples", "shift, 3M + 13", last, due)
 
 
 def classes(encounter):
@@ -323,7 +354,7 @@ def of_classes():
     found = classes(CLEAR_THEN_OPEN), M, text in README
     same("README", text, found, ([(1, "open"), (4, "clear"), (28, "open")], "13.02", True))
     script = (EXAMPLES / "open-class.script").read_bytes()
-    begun = [Encounter(*record.inputs) for record in records.records(script) if len(record.inputs) == 5]
+    begun = encounters_of(script)
     due = [[(1, "open"), (2, "alert")], [(1, 23), (2, "open"), (5, "clear")], [(1, "open")]]
     same("examples", "open-class, classes", list(map(classes, begun)), due)
     # In ten-thousandths, three decimals outward: which encounter, its order, its end, and the text around.
@@ -391,6 +422,7 @@ def main():
     of_bindings()
     of_decimals()
     of_examples()
+    of_printed_examples()
     of_readme()
     of_lower_ends()
     for path in "docs/READING.md", "docs/DECISIONS.md":

@@ -1,18 +1,22 @@
-/* Brackets of encounters from standard input, six numbers each: R sx sy xm ym N. Begins the encounter, adds N - 1 terms, reads, and prints the three
- * answers in the words of a listing; after a read both ends once more as doubles, and with a refusal its condition.
+/* Brackets of encounters from standard input, one a line: R sx sy xm ym N, or R sx sy xm ym N object time. Begins the encounter, with
+ * the object number and the time of closest approach where the line has them, adds N - 1 terms, reads, and prints the three answers in the words of a
+ * listing; after a read both ends once more as doubles, and with a refusal its condition.
  *
  *     rt staticlib jinthuol
  *     gcc -std=c99 -I bindings/c bindings/c/example.c target/staticlib/libjinthuol.a -lm -o target/example
  *     echo 500 5000 100 1000 0 55 | target/example
+ *     echo 500 5000 100 1000 0 55 25544 1440 | target/example
  *
  * As C++: g++ -std=c++11 -I bindings/c -x c++ bindings/c/example.c -x none target/staticlib/libjinthuol.a -o target/example-cpp */
 #include <inttypes.h>
 #include <math.h>
 #include <stdio.h>
+#include <stdlib.h>
+#include <string.h>
 
 #include "jinthuol.h"
 
-/* The condition of a refusal: those that begin, add and read have, from the table of jinthuol.h. */
+/* The condition of a refusal: those that the calls below have, from the table of jinthuol.h. */
 static const char *condition(uint32_t refusal)
 {
     switch (refusal) {
@@ -26,6 +30,8 @@ static const char *condition(uint32_t refusal)
         return "a miss outside -10,000,000 to 10,000,000";
     case 7:
         return "upper t above 64";
+    case 9:
+        return "kind 4: object number is 0";
     case 21:
         return "add or read with no encounter begun";
     case 22:
@@ -94,38 +100,87 @@ static void print_read(jinthuol_answer a)
     printf(" %s", class_name(a.class_));
     print_decimal(false, a.lower);
     print_decimal(true, a.upper);
+    printf(" %" PRIu32 " %" PRIu32, a.object, a.time);
     print_double(a.lower);
     print_double(a.upper);
     printf("\n");
 }
 
-static int within(long long x, long long low, long long high)
+/* The numbers of a line, and the least and the largest that each may be. */
+enum { R, SX, SY, XM, YM, N, OBJECT, TIME, MOST };
+
+static const long long LIMITS[MOST][2] = {
+    {0, UINT32_MAX},
+    {0, UINT32_MAX},
+    {0, UINT32_MAX},
+    {INT32_MIN, INT32_MAX},
+    {INT32_MIN, INT32_MAX},
+    {1, 65536},
+    {0, UINT32_MAX},
+    {0, UINT32_MAX},
+};
+
+/* How many numbers the line has; -1 where one is out of range, or something else stands there. */
+static int numbers(const char *line, long long *found)
 {
-    return low <= x && x <= high;
+    int count = 0;
+
+    while (count < MOST) {
+        char *end;
+        long long x = strtoll(line, &end, 10);
+        if (end == line) {
+            break;
+        }
+        if (x < LIMITS[count][0] || LIMITS[count][1] < x) {
+            return -1;
+        }
+        found[count] = x;
+        count++;
+        line = end;
+    }
+    return line[strspn(line, " \t\r\n")] == '\0' ? count : -1;
 }
 
 int main(void)
 {
-    long long R, sx, sy, xm, ym, N;
-    int found;
+    char line[1024];
 
     if (jinthuol_version() != JINTHUOL_VERSION) {
         fprintf(stderr, "the library has version %" PRIu32 ", its header %d\n", jinthuol_version(), JINTHUOL_VERSION);
         return 1;
     }
-    while ((found = scanf("%lld %lld %lld %lld %lld %lld", &R, &sx, &sy, &xm, &ym, &N)) == 6) {
-        if (!within(R, 0, UINT32_MAX) || !within(sx, 0, UINT32_MAX) || !within(sy, 0, UINT32_MAX) || !within(xm, INT32_MIN, INT32_MAX) ||
-            !within(ym, INT32_MIN, INT32_MAX) || !within(N, 1, 65536)) {
-            break;
+    while (fgets(line, sizeof line, stdin) != NULL) {
+        long long x[MOST];
+        int whole = strchr(line, '\n') != NULL || feof(stdin);
+        int count = whole ? numbers(line, x) : -1;
+        if (count == 0) {
+            continue;
         }
-        jinthuol_encounter encounter = {(uint32_t)R, (uint32_t)sx, (uint32_t)sy, (int32_t)xm, (int32_t)ym};
+        if (count != 6 && count != 8) {
+            fprintf(stderr, "not R sx sy xm ym N, nor with object and time after it: a number is missing or out of range\n");
+            return 1;
+        }
+        jinthuol_encounter encounter;
+        encounter.R = (uint32_t)x[R];
+        encounter.sx = (uint32_t)x[SX];
+        encounter.sy = (uint32_t)x[SY];
+        encounter.xm = (int32_t)x[XM];
+        encounter.ym = (int32_t)x[YM];
         jinthuol_session session = jinthuol_empty();
-        print_order("begun", jinthuol_begin(&session, encounter));
-        print_order("added", jinthuol_add(&session, (uint16_t)(N - 1)));
+        if (count == 8) {
+            jinthuol_conjunction conjunction;
+            conjunction.encounter = encounter;
+            conjunction.object = (uint32_t)x[OBJECT];
+            conjunction.time = (uint32_t)x[TIME];
+            print_order("begun", jinthuol_begin_conjunction(&session, conjunction));
+        } else {
+            print_order("begun", jinthuol_begin(&session, encounter));
+        }
+        print_order("added", jinthuol_add(&session, (uint16_t)(x[N] - 1)));
         print_read(jinthuol_read(session));
     }
-    if (found != EOF || ferror(stdin)) {
-        fprintf(stderr, "not R sx sy xm ym N: a number is missing or out of range\n");
+    if (ferror(stdin)) {
+        fprintf(stderr, "not all was read\n");
         return 1;
     }
     if (fflush(stdout) != 0 || ferror(stdout)) {

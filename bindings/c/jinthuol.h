@@ -14,19 +14,20 @@
  * Refusals. Each test is made in this order, and the first that refuses gives its number; 0 is accepted.
  *
  *      8  script file longer than 65,536 bytes             (jinthuol_run)
- *      1  no kind byte, or kind is not 1, 2 or 3           (in listings)
+ *      1  no kind byte, or kind is not 1, 2, 3 or 4        (in listings)
  *      2  body shorter than its kind needs                 (in listings)
- *      3  R is 0 or above 10,000,000                       (begin)
- *      4  sx or sy is 0 or above 10,000,000                (begin)
- *      5  sy above sx                                      (begin)
- *      6  a miss outside -10,000,000 to 10,000,000         (begin)
- *      7  upper t above 64                                 (begin)
+ *      3  R is 0 or above 10,000,000                       (both begins)
+ *      4  sx or sy is 0 or above 10,000,000                (both begins)
+ *      5  sy above sx                                      (both begins)
+ *      6  a miss outside -10,000,000 to 10,000,000         (both begins)
+ *      7  upper t above 64                                 (both begins)
+ *      9  kind 4: object number is 0                       (begin_conjunction)
  *     21  add or read with no encounter begun              (add, read)
  *     22  add: N + count above 4,096                       (add)
  *     23  read: 2M above N + 2                             (read)
  *
  * 7 in plain words: (xm/sx)^2 + (ym/sy)^2 + (R/sy)^2, which is 2t, is above 128; t is rounded up first. 23: too few terms are added for the bound of
- * those left out; a read needs N of at least 2M - 2. README.md has examples.
+ * those left out; a read needs N of at least 2M - 2. README.md has examples. 9: `kind 4` is the record of a script that asks for begin_conjunction.
  *
  * What a caller sees to. No pointer may be null, also where its length is 0. C converts a number to the type of its parameter or field without a word:
  * test first that it fits.
@@ -48,7 +49,7 @@ extern "C" {
 #endif
 
 /* One more with each change of a struct or a function of this header, or of what a function answers. */
-#define JINTHUOL_VERSION 3
+#define JINTHUOL_VERSION 4
 
 /* The five inputs, in whole centimetres: combined radius R, larger standard deviation sx, smaller sy, mean miss xm and ym, along the principal axes of
  * the covariance in the encounter plane. */
@@ -56,6 +57,13 @@ typedef struct {
     uint32_t R, sx, sy;
     int32_t xm, ym;
 } jinthuol_encounter;
+
+/* An encounter, its object number, from 1 on, and its time of closest approach, in minutes from the epoch that the site chooses. The library keeps the two and
+ * answers them with each read; it computes nothing from them. */
+typedef struct {
+    jinthuol_encounter encounter;
+    uint32_t object, time;
+} jinthuol_conjunction;
 
 /* m x 2^e, with a power of two: m from 2^31 to 2^32 - 1, or zero as m = 0 and e = 0. As a double: ldexp(m, e), exact where e is from -1074 to 992. */
 typedef struct {
@@ -73,21 +81,24 @@ typedef struct {
 /* All that is kept of one encounter between calls. Only the functions below write it: each asks that its session came from jinthuol_empty and
  * then from these calls alone, and that nobody else writes it during the call. It is plain data: a copy of it is a session too. */
 typedef struct {
-    uint32_t words[56];
+    uint32_t words[58];
 } jinthuol_session;
 
 /* The class, by both ends and 1/10,000. Clear: the upper end is below it. Alert: the lower end is at least that. Open: neither, so this read does not
  * tell on which side the probability is; a read with some terms more may (README.md, 'A line of a listing'). */
 enum { JINTHUOL_CLEAR = 0, JINTHUOL_ALERT = 1, JINTHUOL_OPEN = 2 };
 
-/* The refusal's number, or 0; then the order N, both ends and the class. A refusal has zero in every other field; an accepted begin or add has
- * zero in both ends and in the class. So the ends and the class mean something only in the answer of a read whose refusal is 0. */
+/* The refusal's number, or 0; then the order N, both ends, the class, the object number and the time of closest approach. A refusal has zero in every other
+ * field; an accepted begin or add has zero in all but N. So the fields after N mean something only in the answer of a read whose refusal is 0. There the object
+ * number and the time are those of jinthuol_begin_conjunction, and both 0 where the encounter was begun by jinthuol_begin. */
 typedef struct {
     uint32_t refusal;
     uint32_t N;
     jinthuol_scaled lower;
     jinthuol_scaled upper;
     uint32_t class_;
+    uint32_t object;
+    uint32_t time;
 } jinthuol_answer;
 
 /* The bytes of the buffer that are used, and whether they are the whole listing. */
@@ -102,8 +113,16 @@ uint32_t jinthuol_version(void);
 /* A session with no encounter begun. */
 jinthuol_session jinthuol_empty(void);
 
-/* Begins an encounter at order N = 1. Refused as 3 to 7, and then the session is as it was. */
+/* Begins an encounter at order N = 1, with no object: reads answer 0 as the object number and the time. Refused as 3 to 7, and then the session is as it
+ * was, with the earlier object number and time. */
 jinthuol_answer jinthuol_begin(jinthuol_session *session, jinthuol_encounter encounter);
+
+/* Begins an encounter of an object at order N = 1: reads answer the object number and the time too, until the next begin that is accepted. Refused as 3 to 7,
+ * or as 9 where the object number is 0, and then the session is as it was, with the earlier object number and time. Any time is accepted.
+ *
+ *     jinthuol_conjunction conjunction = {{500, 5000, 100, 1000, 0}, 25544, 1440};
+ *     jinthuol_begin_conjunction(&session, conjunction); */
+jinthuol_answer jinthuol_begin_conjunction(jinthuol_session *session, jinthuol_conjunction conjunction);
 
 /* Adds count terms. Refused as 21 or 22, and then the session is as it was. */
 jinthuol_answer jinthuol_add(jinthuol_session *session, uint16_t count);
@@ -118,7 +137,7 @@ jinthuol_answer jinthuol_read(jinthuol_session session);
  * and another number too small for the table of powers of ten (below about 10^-43) is 0.000e-00 as a lower end and 1.000e-43 as an upper one. */
 jinthuol_decimal jinthuol_to_decimal(bool up, jinthuol_scaled number);
 
-/* The listing of a script of begin, add and read records, on a session of its own; `0 refused 8` where the script has more than 65,536 bytes.
+/* The listing of a script of records, on a session of its own; `0 refused 8` where the script has more than 65,536 bytes.
  * A line is written only while 150 bytes of the buffer are left; where fewer are left before the listing's end, it is cut between two lines
  * and `ended` is false. 150 bytes for each byte of the script are enough: a line is given 150 bytes, and no listing has more lines than its
  * script has bytes. The bytes past those used are as they were. Script and buffer may not overlap. */

@@ -23,6 +23,19 @@ Lengths are whole centimetres. A call gives an Answer:
     >>> answer.lower.fraction
     Fraction(2627622691, 34359738368)
 
+With an object number and a time of closest approach, in minutes from the epoch that the site chooses, a read answers
+these too:
+
+    >>> encounter = jinthuol.Encounter(R=500, sx=5000, sy=100, xm=1000, ym=0)
+    >>> conjunction = jinthuol.Conjunction(encounter, object=25544, time=1440)
+    >>> print(session.begin_conjunction(conjunction), session.add(54))
+    N = 1 N = 55
+    >>> answer = session.read()
+    >>> print(answer)
+    N = 55: 2627622691 × 2^-35 to 2627623074 × 2^-35, alert, 7.647e-02 to 7.648e-02, object 25544 at minute 1440
+    >>> answer.object, answer.time
+    (25544, 1440)
+
 The library libjinthuol.a is in the folder that JINTHUOL_LIB_DIR names, else in target/staticlib of the repository,
 where `rt staticlib jinthuol` writes it. At the first import gcc links it into a shared object beside it,
 libjinthuol.so; later imports take that. Where there is no library, or it cannot be linked or is of another version,
@@ -41,11 +54,11 @@ from fractions import Fraction
 from typing import NamedTuple
 
 # JINTHUOL_VERSION of bindings/c/jinthuol.h.
-VERSION = 3
+VERSION = 4
 
 # The condition of each refusal. 1, 2 and 8 are in listings only.
 REFUSALS = {
-    1: "no kind byte, or kind is not 1, 2 or 3",
+    1: "no kind byte, or kind is not 1, 2, 3 or 4",
     2: "body shorter than its kind needs",
     3: "R is 0 or above 10,000,000",
     4: "sx or sy is 0 or above 10,000,000",
@@ -53,6 +66,7 @@ REFUSALS = {
     6: "a miss outside −10,000,000 to 10,000,000",
     7: "upper t above 64",
     8: "script file longer than 65,536 bytes",
+    9: "kind 4: object number is 0",
     21: "add or read with no encounter begun",
     22: "add: N + count above 4,096",
     23: "read: 2M above N + 2",
@@ -71,6 +85,14 @@ class Encounter(NamedTuple):
     sy: int
     xm: int
     ym: int
+
+
+class Conjunction(NamedTuple):
+    """An encounter, its object number, from 1 on, and its time of closest approach in minutes."""
+
+    encounter: Encounter
+    object: int
+    time: int
 
 
 class Struct(ctypes.Structure):
@@ -92,6 +114,12 @@ class Inputs(Struct):
     """An encounter as the library takes it."""
 
     _fields_ = [("R", c_uint32), ("sx", c_uint32), ("sy", c_uint32), ("xm", c_int32), ("ym", c_int32)]
+
+
+class ConjunctionInputs(Struct):
+    """A conjunction as the library takes it."""
+
+    _fields_ = [("encounter", Inputs), ("object", c_uint32), ("time", c_uint32)]
 
 
 class Decimal(Struct):
@@ -158,12 +186,21 @@ class Scaled(Struct):
 
 
 class Answer(Struct):
-    """The refusal's number, or 0; then the order N, both ends and the class (0 clear, 1 alert, 2 open).
+    """The refusal's number, or 0; then the order N, both ends, the class (0 clear, 1 alert, 2 open), object and time.
 
-    Only a read that is not refused has ends and a class: begin, add and every refusal have zero there.
+    Only a read that is not refused has ends, a class, an object number and a time: both begins, add and every refusal
+    have zero there. The object number and the time are those of begin_conjunction, and both 0 after begin.
     """
 
-    _fields_ = [("refusal", c_uint32), ("N", c_uint32), ("lower", Scaled), ("upper", Scaled), ("class_", c_uint32)]
+    _fields_ = [
+        ("refusal", c_uint32),
+        ("N", c_uint32),
+        ("lower", Scaled),
+        ("upper", Scaled),
+        ("class_", c_uint32),
+        ("object", c_uint32),
+        ("time", c_uint32),
+    ]
 
     @property
     def has_ends(self):
@@ -198,13 +235,14 @@ class Answer(Struct):
         if not self.has_ends:
             return f"N = {self.N}"
         lower, upper = self.decimals
-        return f"N = {self.N}: {self.lower} to {self.upper}, {self.class_name}, {lower} to {upper}"
+        of_object = f", object {self.object} at minute {self.time}" if self.object else ""
+        return f"N = {self.N}: {self.lower} to {self.upper}, {self.class_name}, {lower} to {upper}{of_object}"
 
 
 class Kept(Struct):
     """What a session keeps. Only the library writes it."""
 
-    _fields_ = [("words", c_uint32 * 56)]
+    _fields_ = [("words", c_uint32 * 58)]
 
 
 class Listing(Struct):
@@ -257,6 +295,7 @@ def load():
     for name, result, *arguments in (
         ("empty", Kept),
         ("begin", Answer, POINTER(Kept), Inputs),
+        ("begin_conjunction", Answer, POINTER(Kept), ConjunctionInputs),
         ("add", Answer, POINTER(Kept), c_uint16),
         ("read", Answer, Kept),
         ("to_decimal", Decimal, c_bool, Scaled),
@@ -290,9 +329,22 @@ class Session:
         return cls(LIBRARY.jinthuol_empty())
 
     def begin(self, encounter):
-        """Begins an encounter at order N = 1. Refused as 3 to 7, and then the session is as it was."""
+        """Begins an encounter at order N = 1, with no object: reads answer 0 as the object number and the time.
+
+        Refused as 3 to 7, and then the session is as it was, with the earlier object number and time.
+        """
         packed = struct.pack("=IIIii", *encounter)
         return LIBRARY.jinthuol_begin(self.kept, Inputs.from_buffer_copy(packed))
+
+    def begin_conjunction(self, conjunction):
+        """Begins an encounter of an object at order N = 1: reads answer the object number and the time too.
+
+        Refused as 3 to 7, or as 9 where the object number is 0, and then the session is as it was, with the earlier
+        object number and time.
+        """
+        encounter, number, time = conjunction
+        packed = struct.pack("=IIIiiII", *encounter, number, time)
+        return LIBRARY.jinthuol_begin_conjunction(self.kept, ConjunctionInputs.from_buffer_copy(packed))
 
     def add(self, count):
         """Adds count terms. Refused as 21 or 22, and then the session is as it was."""

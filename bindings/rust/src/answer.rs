@@ -58,12 +58,20 @@ pub struct Answer {
     pub upper: Scaled,
     /// The class, by both ends.
     pub class: Class,
+    /// The object number that the encounter was begun with, or 0 where it was begun without one.
+    pub object: u32,
+    /// Its time of closest approach, in minutes from the epoch that the site chooses; 0 where `object` is 0.
+    pub time: u32,
 }
 
 impl fmt::Display for Answer {
     fn fmt(&self, f: &mut fmt::Formatter<'_>) -> fmt::Result {
         write!(f, "N = {}: {} to {}, {}", self.N, self.lower, self.upper, self.class)?;
-        write!(f, ", {} to {}", self.lower.decimal_down(), self.upper.decimal_up())
+        write!(f, ", {} to {}", self.lower.decimal_down(), self.upper.decimal_up())?;
+        match self.object {
+            0 => Ok(()),
+            number => write!(f, ", object {number} at minute {}", self.time),
+        }
     }
 }
 

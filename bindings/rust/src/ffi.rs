@@ -6,10 +6,10 @@
 use crate::answer::Scaled;
 use crate::decimal::Decimal;
 use crate::script::Listing;
-use crate::session::{Encounter, Session};
+use crate::session::{Conjunction, Encounter, Session};
 
-/// The refusal's number, or 0; then the order N, both ends and the class. The class is a number here:
-/// an enum of Rust would trust the library to give no other number than its own.
+/// The refusal's number, or 0; then the order N, both ends, the class, the object number and the time. The class is a
+/// number here: an enum of Rust would trust the library to give no other number than its own.
 #[repr(C)]
 #[allow(non_snake_case)]
 pub struct Answer {
@@ -18,9 +18,11 @@ pub struct Answer {
     pub lower: Scaled,
     pub upper: Scaled,
     pub class: u32,
+    pub object: u32,
+    pub time: u32,
 }
 
-// `safe`: the types of these six say all that they trust, but that the library has this crate's
+// `safe`: the types of these seven say all that they trust, but that the library has this crate's
 // version, which `Session::empty`, `run_into` and the decimals test first. A reference is valid, and not shared while
 // it is lent. A `Session` came from these calls, since nothing else writes its private field.
 unsafe extern "C" {
@@ -32,6 +34,9 @@ unsafe extern "C" {
 
     /// Trusts that the session came from these calls. Any five numbers will do.
     pub safe fn jinthuol_begin(session: &mut Session, encounter: Encounter) -> Answer;
+
+    /// Trusts that the session came from these calls. Any seven numbers will do.
+    pub safe fn jinthuol_begin_conjunction(session: &mut Session, conjunction: Conjunction) -> Answer;
 
     /// Trusts that the session came from these calls. Any count will do.
     pub safe fn jinthuol_add(session: &mut Session, count: u16) -> Answer;

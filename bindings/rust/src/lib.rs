@@ -19,10 +19,25 @@
 //! # Ok::<(), Refusal>(())
 //! ```
 //!
+//! With an object number and a time of closest approach, in minutes from the epoch that the site chooses, a read answers
+//! these too:
+//!
+//! ```
+//! use jinthuol::{Conjunction, Encounter, Refusal, Session};
+//!
+//! let mut session = Session::empty();
+//! let encounter = Encounter { R: 10, sx: 10, sy: 10, xm: 0, ym: 0 };
+//! session.begin_conjunction(Conjunction { encounter, object: 25544, time: 1440 })?;
+//! let answer = session.read()?;
+//! assert_eq!((answer.object, answer.time), (25544, 1440));
+//! assert!(answer.to_string().ends_with("alert, 3.032e-01 to 4.549e-01, object 25544 at minute 1440"));
+//! # Ok::<(), Refusal>(())
+//! ```
+//!
 //! A session cannot be put together from numbers:
 //!
 //! ```compile_fail,E0451
-//! let session = jinthuol::Session { words: [0; 56] };
+//! let session = jinthuol::Session { words: [0; 58] };
 //! ```
 #![deny(missing_docs, unsafe_code, unsafe_op_in_unsafe_fn)]
 
@@ -43,10 +58,10 @@ pub use answer::{Answer, Class, Scaled};
 pub use decimal::Decimal;
 pub use refusal::Refusal;
 pub use script::{run, run_into, Listing};
-pub use session::{Encounter, Session};
+pub use session::{Conjunction, Encounter, Session};
 
 /// The version of the library's functions that this crate is for: JINTHUOL_VERSION of bindings/c/jinthuol.h.
-pub const VERSION: u32 = 3;
+pub const VERSION: u32 = 4;
 
 /// The version of the library that this crate was linked with. Where it is not [`VERSION`], [`Session::empty`],
 /// [`run`], [`run_into`] and the decimals of a [`Scaled`] panic: the structs may be others.

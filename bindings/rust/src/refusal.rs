@@ -11,7 +11,7 @@ impl Refusal {
     /// The condition under which the number falls.
     pub fn condition(self) -> &'static str {
         match self.0 {
-            1 => "no kind byte, or kind is not 1, 2 or 3",
+            1 => "no kind byte, or kind is not 1, 2, 3 or 4",
             2 => "body shorter than its kind needs",
             3 => "R is 0 or above 10,000,000",
             4 => "sx or sy is 0 or above 10,000,000",
@@ -19,6 +19,7 @@ impl Refusal {
             6 => "a miss outside −10,000,000 to 10,000,000",
             7 => "upper t above 64",
             8 => "script file longer than 65,536 bytes",
+            9 => "kind 4: object number is 0",
             21 => "add or read with no encounter begun",
             22 => "add: N + count above 4,096",
             23 => "read: 2M above N + 2",

@@ -17,7 +17,7 @@ const ROOM: usize = 150;
 /// A longer script is refused as 8.
 const LONGEST: usize = 65_536;
 
-/// The listing of a script of begin, add and read records, on a session of its own.
+/// The listing of a script of records, on a session of its own.
 pub fn run(script: &[u8]) -> Vec<u8> {
     // 150 bytes for each byte of the script are enough, and for one line where it is too long: this is
     // promised and proved of `jinthuol_run`.

@@ -9,7 +9,7 @@ use crate::refusal::Refusal;
 #[repr(C)]
 #[derive(Clone, Debug, PartialEq, Eq)]
 pub struct Session {
-    words: [u32; 56],
+    words: [u32; 58],
 }
 
 impl Session {
@@ -19,10 +19,17 @@ impl Session {
         ffi::jinthuol_empty()
     }
 
-    /// Begins an encounter. Gives the order N, 1. Refused as 3 to 7, and then the session is as it
-    /// was.
+    /// Begins an encounter, with no object: reads answer 0 as the object number and the time. Gives the order N, 1.
+    /// Refused as 3 to 7, and then the session is as it was, with the earlier object number and time.
     pub fn begin(&mut self, encounter: Encounter) -> Result<u32, Refusal> {
         Ok(accepted(ffi::jinthuol_begin(self, encounter))?.N)
+    }
+
+    /// Begins an encounter of an object: reads answer the object number and the time too. Gives the order N, 1. Refused
+    /// as 3 to 7, or as 9 where the object number is 0, and then the session is as it was, with the earlier object
+    /// number and time.
+    pub fn begin_conjunction(&mut self, conjunction: Conjunction) -> Result<u32, Refusal> {
+        Ok(accepted(ffi::jinthuol_begin_conjunction(self, conjunction))?.N)
     }
 
     /// Adds terms of the series. Gives the order N after it. Refused as 21 or 22, and then the session
@@ -44,6 +51,8 @@ impl Session {
                 2 => Class::Open,
                 other => unreachable!("class {other}"),
             },
+            object: answer.object,
+            time: answer.time,
         })
     }
 }
@@ -70,4 +79,16 @@ pub struct Encounter {
     pub xm: i32,
     /// The mean miss along y.
     pub ym: i32,
+}
+
+/// An encounter of an object. The library keeps the last two numbers and computes nothing from them.
+#[repr(C)]
+#[derive(Clone, Copy, Debug, PartialEq, Eq)]
+pub struct Conjunction {
+    /// The inputs.
+    pub encounter: Encounter,
+    /// The object number, from 1 on.
+    pub object: u32,
+    /// The time of closest approach, in minutes from the epoch that the site chooses. Any will do.
+    pub time: u32,
 }

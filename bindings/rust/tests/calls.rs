@@ -1,7 +1,7 @@
-//! Document 01's encounters and refusals through begin, add and read.
+//! The encounters and refusals of documents 01 and 02 through the calls on a session.
 #![allow(non_snake_case)]
 
-use jinthuol::{library_version, Answer, Class, Decimal, Encounter, Refusal, Scaled, Session, VERSION};
+use jinthuol::{library_version, Answer, Class, Conjunction, Decimal, Encounter, Refusal, Scaled, Session, VERSION};
 
 const HALF: Encounter = of(10, 10, 10, 0, 0);
 const FULL: Encounter = of(8, 1, 1, 8, 0);
@@ -24,14 +24,23 @@ fn at(encounter: Encounter, N: u16) -> Session {
     session
 }
 
+/// The same with an object number and a time.
+fn at_object(encounter: Encounter, N: u16, object: u32, time: u32) -> Session {
+    let mut session = Session::empty();
+    assert_eq!(session.begin_conjunction(Conjunction { encounter, object, time }), Ok(1), "{encounter:?}");
+    assert_eq!(session.add(N - 1), Ok(N.into()), "{encounter:?}");
+    session
+}
+
 fn answer(N: u32, lower: (u32, i32), upper: (u32, i32), class: Class) -> Answer {
     let scaled = |(m, e)| Scaled { m, e };
-    Answer { N, lower: scaled(lower), upper: scaled(upper), class }
+    Answer { N, lower: scaled(lower), upper: scaled(upper), class, object: 0, time: 0 }
 }
 
 #[test]
 fn sizes() {
-    assert_eq!((size_of::<Session>(), align_of::<Session>()), (224, 4));
+    assert_eq!((size_of::<Session>(), align_of::<Session>()), (232, 4));
+    assert_eq!((size_of::<Conjunction>(), align_of::<Conjunction>()), (28, 4));
 }
 
 #[test]
@@ -64,18 +73,43 @@ fn begins() {
         (HALF, 0),
         (FULL, 0),
     ] {
-        let due = if refusal == 0 { Ok(1) } else { Err(Refusal(refusal)) };
-        // First on an empty session, then over an earlier encounter.
-        for earlier in [Session::empty(), at(TEST_1, 55)] {
-            let mut session = earlier.clone();
-            assert_eq!(session.begin(encounter), due, "{encounter:?}");
-            if refusal == 0 {
-                assert_eq!(session, at(encounter, 1), "{encounter:?}");
-            } else {
-                assert_eq!(session.read(), earlier.read(), "{encounter:?}");
-                assert_eq!(session, earlier, "{encounter:?}");
-            }
+        // By both begins. The second refuses an object number of 0, where no earlier test refuses.
+        tried(encounter, None, refusal);
+        tried(encounter, Some((7, 8)), refusal);
+        tried(encounter, Some((0, 8)), if refusal == 0 { 9 } else { refusal });
+    }
+}
+
+/// A begin, with an object number and a time or without: first on an empty session, then over an earlier encounter.
+fn tried(encounter: Encounter, of_object: Option<(u32, u32)>, refusal: u32) {
+    for earlier in [Session::empty(), at(TEST_1, 55), at_object(TEST_1, 55, 25544, 1440)] {
+        let mut session = earlier.clone();
+        let begun = match of_object {
+            None => session.begin(encounter),
+            Some((object, time)) => session.begin_conjunction(Conjunction { encounter, object, time }),
+        };
+        if refusal == 0 {
+            assert_eq!(begun, Ok(1), "{encounter:?}");
+            let due = of_object.map_or(at(encounter, 1), |(object, time)| at_object(encounter, 1, object, time));
+            assert_eq!(session, due, "{encounter:?}");
+        } else {
+            assert_eq!(begun, Err(Refusal(refusal)), "{encounter:?}");
+            assert_eq!(session.read(), earlier.read(), "{encounter:?}");
+            assert_eq!(session, earlier, "{encounter:?}");
         }
+    }
+}
+
+/// Request #104: a read answers the object number and the time, and all else is that of the encounter alone.
+#[test]
+fn objects() {
+    for (object, time) in [(25544, 1440), (1, 0), (2, u32::MAX), (u32::MAX, 3), (0x01020304, 0x0a0b0c0d)] {
+        let mut session = at_object(TEST_1, 55, object, time);
+        let read = session.read().unwrap();
+        assert_eq!((read.object, read.time), (object, time));
+        assert_eq!(Answer { object: 0, time: 0, ..read }, at(TEST_1, 55).read().unwrap());
+        assert_eq!(session.begin(HALF), Ok(1));
+        assert_eq!(session.read().map(|a| (a.object, a.time)), Ok((0, 0)));
     }
 }
 
@@ -164,16 +198,18 @@ fn a_clone_is_a_session_of_its_own() {
 #[test]
 fn refusals_in_words() {
     assert_eq!(Refusal(7).to_string(), "refused 7: upper t above 64");
-    for number in [1, 2, 3, 4, 5, 6, 7, 8, 21, 22, 23] {
+    for number in [1, 2, 3, 4, 5, 6, 7, 8, 9, 21, 22, 23] {
         assert!(!Refusal(number).to_string().contains("no such"));
     }
-    assert_eq!(Refusal(9).to_string(), "refused 9: no such refusal");
+    assert_eq!(Refusal(20).to_string(), "refused 20: no such refusal");
 }
 
 #[test]
 fn answers_in_words() {
-    let read = at(HALF, 1).read().unwrap();
-    assert_eq!(read.to_string(), "N = 1: 2605029163 × 2^-33 to 3907544026 × 2^-33, alert, 3.032e-01 to 4.549e-01");
+    let text = "N = 1: 2605029163 × 2^-33 to 3907544026 × 2^-33, alert, 3.032e-01 to 4.549e-01";
+    assert_eq!(at(HALF, 1).read().unwrap().to_string(), text);
+    let read = at_object(HALF, 1, 25544, 1440).read().unwrap();
+    assert_eq!(read.to_string(), format!("{text}, object 25544 at minute 1440"));
     assert_eq!((Scaled { m: 0, e: 0 }).to_string(), "0");
     assert_eq!(format!("{:>6}|{}|{}", Class::Clear, Class::Alert, Class::Open), " clear|alert|open");
 }

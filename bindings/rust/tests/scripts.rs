@@ -1,6 +1,6 @@
 //! Listings: of examples/, by the calls, in buffers of every small size, and of the longest scripts.
 
-use jinthuol::{run, run_into, Encounter, Listing, Refusal, Session};
+use jinthuol::{run, run_into, Conjunction, Encounter, Listing, Refusal, Session};
 use std::fs;
 use std::path::Path;
 
@@ -19,7 +19,17 @@ fn examples() -> Vec<(String, Vec<u8>, Vec<u8>)> {
     found
 }
 
-/// The listing, made from the answers to begin, add and read.
+/// The number at index k of a body of 32-bit numbers.
+fn word(body: &[u8], k: usize) -> u32 {
+    u32::from_le_bytes(body[4 * k..4 * k + 4].try_into().unwrap())
+}
+
+fn encounter(body: &[u8]) -> Encounter {
+    let signed = |k| word(body, k) as i32;
+    Encounter { R: word(body, 0), sx: word(body, 1), sy: word(body, 2), xm: signed(3), ym: signed(4) }
+}
+
+/// The listing, made from the answers to the calls.
 fn by_calls(script: &[u8]) -> String {
     let mut session = Session::empty();
     let mut text = String::new();
@@ -29,16 +39,17 @@ fn by_calls(script: &[u8]) -> String {
             1 => Some(21),
             2 => Some(3),
             3 => Some(1),
+            4 => Some(29),
             _ => None,
         };
         let answer = match width.map(|width| script.get(position..position + width)) {
             None => Err(Refusal(1)),
             Some(None) => Err(Refusal(2)),
-            Some(Some([1, body @ ..])) => {
-                let word = |k: usize| u32::from_le_bytes(body[4 * k..4 * k + 4].try_into().unwrap());
-                let signed = |k| word(k) as i32;
-                let encounter = Encounter { R: word(0), sx: word(1), sy: word(2), xm: signed(3), ym: signed(4) };
-                session.begin(encounter).map(|n| format!("begun {n}"))
+            Some(Some([1, body @ ..])) => session.begin(encounter(body)).map(|n| format!("begun {n}")),
+            Some(Some([4, body @ ..])) => {
+                let (object, time) = (word(body, 5), word(body, 6));
+                let conjunction = Conjunction { encounter: encounter(body), object, time };
+                session.begin_conjunction(conjunction).map(|n| format!("begun {n}"))
             }
             Some(Some([2, body @ ..])) => {
                 let added = session.add(u16::from_le_bytes(body.try_into().unwrap()));
@@ -46,7 +57,8 @@ fn by_calls(script: &[u8]) -> String {
             }
             Some(Some(_)) => session.read().map(|a| {
                 let ends = format!("{} {} {} {}", a.lower.m, a.lower.e, a.upper.m, a.upper.e);
-                format!("read {} {ends} {} {} {}", a.N, a.class, a.lower.decimal_down(), a.upper.decimal_up())
+                let decimals = format!("{} {}", a.lower.decimal_down(), a.upper.decimal_up());
+                format!("read {} {ends} {} {decimals} {} {}", a.N, a.class, a.object, a.time)
             }),
         };
         let last = matches!(answer, Err(Refusal(1 | 2)));
@@ -103,7 +115,7 @@ fn short_scripts() {
     assert_eq!(in_buffer("no byte", &[], b"", 0), Listing { used: 0, ended: true });
     for kind in 0..=255 {
         let due = match kind {
-            1 | 2 => 2,
+            1 | 2 | 4 => 2,
             3 => 21,
             _ => 1,
         };
@@ -119,11 +131,14 @@ fn short_scripts() {
 
 #[test]
 fn longest_scripts() {
-    // An accepted read for each byte, a refused read for each byte, and encounters.
+    // An accepted read for each byte, without an object and with the longest numbers; a refused read for each byte; and
+    // encounters.
     let mut reads = vec![1, 10, 0, 0, 0, 10, 0, 0, 0, 10, 0, 0, 0, 0, 0, 0, 0, 0, 0, 0, 0];
-    let encounters = reads.repeat(65_536 / 21);
+    let mut of_object = [&[4], &reads[1..], &[255; 4], &[254, 255, 255, 255]].concat();
+    let encounters = [&reads[..], &of_object].concat().repeat(65_536 / 50);
     reads.resize(65_536, 3);
-    for script in [reads, vec![3; 65_536], encounters] {
+    of_object.resize(65_536, 3);
+    for script in [reads, of_object, vec![3; 65_536], encounters] {
         let listing = run(&script);
         same("a long script", &listing, by_calls(&script).as_bytes());
         for size in [150, 65_536, listing.len() - 1, listing.len() + 149, listing.len() + 150] {

@@ -2,7 +2,7 @@
 // before. Only a function that lends a session has a premise here, `Reached`, and its callers start from the empty session.
 ghost use mathlib.Core.Path.{_≡_};
 ghost use Rattle.encounter.specs.Session.{empty as empty-session};
-ghost use Rattle.encounter.specs.Calls.{begins, adds, reads, call, Reached};
+ghost use Rattle.encounter.specs.Calls.{begins, begins-conjunction, adds, reads, call, Reached};
 ghost use Rattle.jinthuol.specs.Answer.{numbered, called};
 use encounter::calls;
 use encounter::calls::records::take_record;
@@ -10,12 +10,14 @@ use encounter::decimals::to_decimal;
 use encounter::state::Answer;
 use encounter::state::Called;
 use encounter::state::Session;
+use exact::Conjunction;
 use exact::Decimal;
 use exact::Encounter;
 use exact::Scaled;
 use jinthuol::Listing;
 use jinthuol::jinthuol_add;
 use jinthuol::jinthuol_begin;
+use jinthuol::jinthuol_begin_conjunction;
 use jinthuol::jinthuol_empty;
 use jinthuol::jinthuol_read;
 use jinthuol::jinthuol_run;
@@ -27,21 +29,30 @@ use listing::script::put_lines;
 use listing::script::put_too_long;
 
 // A session of which callers know only that calls left it.
-fn used(E: Encounter, count: u16, script: &[u8], at: usize) -> Session
+fn used(C: Conjunction, E: Encounter, count: u16, script: &[u8], at: usize) -> Session
     ensures { λ r. ⌜ Reached r ⌝ }
 {
-    let begun = calls::begin(Session::empty(), E);
+    let named = calls::begin_conjunction(Session::empty(), C);
+    let begun = calls::begin(named.session, E);
     let added = calls::add(begun.session, count);
     let taken = take_record(added.session, script, at);
     taken.session
 }
 
 // Every call by value on such a session.
-fn by_value(E: Encounter, count: u16, script: &[u8], at: usize, out: &mut [u8]) -> Piece
+fn by_value(
+    C: Conjunction,
+    E: Encounter,
+    count: u16,
+    script: &[u8],
+    at: usize,
+    out: &mut [u8],
+) -> Piece
     ensures { λ r. ⌜ Reached (r .session) ⌝ }
 {
-    let s = used(E, count, script, at);
+    let s = used(C, E, count, script, at);
     calls::begin(s, E);
+    calls::begin_conjunction(s, C);
     calls::add(s, count);
     calls::read(s);
     take_record(s, script, at);
@@ -58,6 +69,15 @@ fn begin_lent(s: Session, E: Encounter) -> Called
     Called { answer, session: t }
 }
 
+fn begin_conjunction_lent(s: Session, C: Conjunction) -> Called
+    requires { ⌜ Reached s ⌝ }
+    ensures { λ r. ⌜ (r ≡ call (begins-conjunction C) s) × Reached (r .session) ⌝ }
+{
+    let mut t = s;
+    let answer = t.begin_conjunction(C);
+    Called { answer, session: t }
+}
+
 fn add_lent(s: Session, count: u16) -> Called
     requires { ⌜ Reached s ⌝ }
     ensures { λ r. ⌜ (r ≡ call (adds count) s) × Reached (r .session) ⌝ }
@@ -67,11 +87,12 @@ fn add_lent(s: Session, count: u16) -> Called
     Called { answer, session: t }
 }
 
-// What a read answers after a begin and an add.
-pub fn bracket(E: Encounter, count: u16) -> Answer
-    ensures { λ r. ⌜ r ≡ call reads (call (adds count) (call (begins E) empty-session .session) .session) .answer ⌝ }
+// What a read answers after a begin, one with object and time, and an add.
+pub fn bracket(E: Encounter, C: Conjunction, count: u16) -> Answer
+    ensures { λ r. ⌜ r ≡ call reads (call (adds count) (call (begins-conjunction C) (call (begins E) empty-session .session) .session) .session) .answer ⌝ }
 {
-    let begun = begin_lent(Session::empty(), E);
+    let first = begin_lent(Session::empty(), E);
+    let begun = begin_conjunction_lent(first.session, C);
     let added = add_lent(begun.session, count);
     calls::read(added.session)
 }
@@ -86,6 +107,15 @@ fn begin_exported(s: Session, E: Encounter) -> jinthuol::Called
     jinthuol::Called { answer, session: t }
 }
 
+fn begin_conjunction_exported(s: Session, C: Conjunction) -> jinthuol::Called
+    requires { ⌜ Reached s ⌝ }
+    ensures { λ r. ⌜ (r ≡ called (call (begins-conjunction C) s)) × Reached (r .session) ⌝ }
+{
+    let mut t = s;
+    let answer = jinthuol_begin_conjunction(&mut t, C);
+    jinthuol::Called { answer, session: t }
+}
+
 fn add_exported(s: Session, count: u16) -> jinthuol::Called
     requires { ⌜ Reached s ⌝ }
     ensures { λ r. ⌜ (r ≡ called (call (adds count) s)) × Reached (r .session) ⌝ }
@@ -95,10 +125,11 @@ fn add_exported(s: Session, count: u16) -> jinthuol::Called
     jinthuol::Called { answer, session: t }
 }
 
-pub fn bracket_exported(E: Encounter, count: u16) -> jinthuol::Answer
-    ensures { λ r. ⌜ r ≡ numbered (call reads (call (adds count) (call (begins E) empty-session .session) .session) .answer) ⌝ }
+pub fn bracket_exported(E: Encounter, C: Conjunction, count: u16) -> jinthuol::Answer
+    ensures { λ r. ⌜ r ≡ numbered (call reads (call (adds count) (call (begins-conjunction C) (call (begins E) empty-session .session) .session) .session) .answer) ⌝ }
 {
-    let begun = begin_exported(jinthuol_empty(), E);
+    let first = begin_exported(jinthuol_empty(), E);
+    let begun = begin_conjunction_exported(first.session, C);
     let added = add_exported(begun.session, count);
     jinthuol_read(added.session)
 }

@@ -4,6 +4,7 @@ use mathlib.Core.Bool.{Bool, true, false}
 use Prim.Native.Nat.{ℕ, suc, _-_, _*_, _≤_, _<_}
 use lib.IntN.{pos, _-ℤ_}
 use Rattle.exact.specs.declared.Encounter.{Encounter}
+use Rattle.exact.specs.declared.Conjunction.{Conjunction}
 use Rattle.exact.specs.declared.Scaled.{Scaled}
 use Rattle.exact.specs.Fraction.{Frac, _≼_, _≈_, _⊗_, _÷_, whole, sum}
 use Rattle.exact.specs.Numbers.{exponential-cut}
@@ -18,7 +19,7 @@ use Rattle.encounter.specs.declared.state.Answer.{Answer}
 use Rattle.encounter.specs.declared.state.Class.{Class}
 use Rattle.encounter.specs.declared.state.Class.the-variants.{Clear, Alert}
 use Rattle.encounter.specs.Session.{state, falls-under, lower-decimal, upper-decimal}
-use Rattle.encounter.specs.Calls.{begins, adds, reads, call, Reached}
+use Rattle.encounter.specs.Calls.{begins, begins-conjunction, adds, reads, call, Reached}
 use Rattle.encounter.specs.Stars.{stars, All}
 
 -- "Document 001, section III, in these scaled letters": the rounded steps, with no rounding, are the exact series
@@ -29,6 +30,10 @@ pub record Unrounded (E : Encounter) : Type 0 where
   pub exponentials-are : (k : ℕ) → powers same same (whole 1) (t E) k .sum ≈ exponential E (suc k)
   -- M is F(0)
   pub bound-is : bound same same (letters same same E) ≈ F E 0
+
+-- a conjunction with the miss xm on the other side
+abbrev pub mirrored-conjunction : Conjunction → Conjunction
+mirrored-conjunction C = record { encounter = mirrored (C .encounter); object = C .object; time = C .time }
 
 -- a session from these calls, on which a read is accepted
 pub record Readable (s : Session) : Type 0 where
@@ -74,10 +79,12 @@ pub record Claims : Type 0 where
   pub unrounded : (E : Encounter) → Unrounded E
   -- the cases marked ★
   pub star-cases : All stars
-  -- "xm = −8 in place of 8: the same answers", for every encounter, session, order and count
+  -- "xm = −8 in place of 8: the same answers", for every encounter, object, time, session, order and count
   pub mirror-begin : (E : Encounter) (s : Session) → call (begins (mirrored E)) s .answer ≡ call (begins E) s .answer
-  pub mirror-add : (E : Encounter) (N count : ℕ) → call (adds count) (state (mirrored E) N) .answer ≡ call (adds count) (state E N) .answer
-  pub mirror-read : (E : Encounter) (N : ℕ) → call reads (state (mirrored E) N) .answer ≡ call reads (state E N) .answer
+  pub mirror-begin-conjunction :
+      (C : Conjunction) (s : Session) → call (begins-conjunction (mirrored-conjunction C)) s .answer ≡ call (begins-conjunction C) s .answer
+  pub mirror-add : (C : Conjunction) (N count : ℕ) → call (adds count) (state (mirrored-conjunction C) N) .answer ≡ call (adds count) (state C N) .answer
+  pub mirror-read : (C : Conjunction) (N : ℕ) → call reads (state (mirrored-conjunction C) N) .answer ≡ call reads (state C N) .answer
   -- request #101: the class of every accepted read
   pub classes : {s : Session} → Readable s → Classed (s .encounter) (s .N) (call reads s .answer)
   -- of two accepted reads of one encounter, at whatever orders, never one is an alert and the other clear

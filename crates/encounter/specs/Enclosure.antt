@@ -4,6 +4,7 @@ use mathlib.Core.Bool.{false}
 use mathlib.Core.List.{List, [], _∷_}
 use Prim.Native.Nat.{ℕ, _+_, _*_, _^_, _≤_}
 use Rattle.exact.specs.declared.Encounter.{Encounter}
+use Rattle.exact.specs.declared.Conjunction.{Conjunction}
 use Rattle.exact.specs.Fraction.{_≼_, _⊗_, _↑_, _over_}
 use Rattle.exact.specs.Numbers.{exponential-cut}
 use Rattle.exact.specs.Scaled.{value}
@@ -42,6 +43,11 @@ pub record Encloses (E : Encounter) (N : ℕ) (a : Answer) : Type 0 where
       tail-bound E N ≼ (1 over (2 ^ 31)) ⊗ value (sum-to false E N) →
       value (a .upper) ≼ value (a .lower) ⊗ ((2 ^ 31 + 1) over (2 ^ 31)) ↑ (18 * N + 2600)
 
+-- request #104, "a read answers both": the answer has the object number and the time of C
+pub record Named (C : Conjunction) (a : Answer) : Type 0 where
+  pub object-is : a .object ≡ C .object
+  pub time-is : a .time ≡ C .time
+
 -- what holds of a place
 pub record Claim (p : Place) : Type 0 where
   -- demand 1, which the next line implies: "Each refusal bears one of the numbers in document 01, falls under the condition written there and never otherwise"
@@ -51,7 +57,9 @@ pub record Claim (p : Place) : Type 0 where
   pub session : p .session ≡ session-of (follow (p .history) (p .request))
   -- demand 3: "for every read accepted in it"
   pub enclosed :
-      p .request ≡ read → refusal (p .history) read ≡ 0 → (E : Encounter) × (N : ℕ) × (p .history ≡ encounter-at E N) × Encloses E N (p .answer)
+      p .request ≡ read →
+      refusal (p .history) read ≡ 0 →
+      (C : Conjunction) × (N : ℕ) × (p .history ≡ encounter-at C N) × Encloses (C .encounter) N (p .answer) × Named C (p .answer)
 
 abbrev pub Every : (Place → Type 0) → List Place → Type 0
 Every P [] = Unit {0}

@@ -1,8 +1,10 @@
--- Document 01, 'Script records': the session, empty and after a begin, and what is answered; the class by request #101 of document 02, the decimals by #103.
+-- Document 01, 'Script records': the session, empty and after a begin, and what is answered; the class by request #101 of document 02, the decimals by #103, object and
+-- time by #104.
 use mathlib.Core.Bool.{Bool, true, false, cond, not, _&&_}
 use Prim.Native.Nat.{ℕ, pred}
 use lib.IntN.{pos}
 use Rattle.exact.specs.declared.Encounter.{Encounter}
+use Rattle.exact.specs.declared.Conjunction.{Conjunction}
 use Rattle.exact.specs.declared.Scaled.{Scaled}
 use Rattle.exact.specs.declared.Decimal.{Decimal}
 use Rattle.exact.specs.Scaled.{nought, value}
@@ -27,6 +29,8 @@ no-side = record {
 abbrev pub empty : Session
 empty = record {
   encounter = record { R = 0; sx = 0; sy = 0; xm = pos 0; ym = pos 0 };
+  object = 0;
+  time = 0;
   N = 0;
   lower = no-side;
   upper = no-side;
@@ -46,19 +50,39 @@ side up E N =
       terms = record { c = s .c; p = s .p; v = s .v; y = s .y; sum = s .sum };
     }
 
--- the session of an encounter at order N: "After each accepted record all of these are the steps' numbers for the new N."
-unfoldable pub state : Encounter → ℕ → Session
-state E N = record { encounter = E; N = N; lower = side false E N; upper = side true E N; r256 = r256 E; M = M E; d = d E N }
+-- the session of a conjunction at order N: "After each accepted record all of these are the steps' numbers for the new N."; "The session keeps both"
+unfoldable pub state : Conjunction → ℕ → Session
+state C N =
+    let E = C .encounter in
+    record {
+      encounter = E;
+      object = C .object;
+      time = C .time;
+      N = N;
+      lower = side false E N;
+      upper = side true E N;
+      r256 = r256 E;
+      M = M E;
+      d = d E N;
+    }
+
+-- "After a kind 1 begin both are 0."
+abbrev pub no-object : Encounter → Conjunction
+no-object E = record { encounter = E; object = 0; time = 0 }
+
+-- the conjunction that a session's fields tell
+abbrev pub conjunction-of : Session → Conjunction
+conjunction-of s = record { encounter = s .encounter; object = s .object; time = s .time }
 
 -- ---- the answers
 
 -- "A refusal answers its number, with zero in every other field of the answer (class `clear`)"
 abbrev pub refused : ℕ → Answer
-refused r = record { refusal = r; N = 0; lower = nought; upper = nought; class = Clear }
+refused r = record { refusal = r; N = 0; lower = nought; upper = nought; class = Clear; object = 0; time = 0 }
 
--- An accepted begin or add answers the order after it. The paper leaves its other fields free: both ends are zero and the class is clear.
+-- An accepted begin or add answers the order after it. The paper leaves its other fields free: they are those of a refusal.
 abbrev pub counted : ℕ → Answer
-counted N = record { refusal = 0; N = N; lower = nought; upper = nought; class = Clear }
+counted N = record { refusal = 0; N = N; lower = nought; upper = nought; class = Clear; object = 0; time = 0 }
 
 -- Request #101, for each class whether two ends fall under it: "Alert remains where the lower end × 10,000 ≥ 1. Clear now needs the upper end × 10,000 below 1.
 -- Anything between is `open`"
@@ -78,6 +102,9 @@ lower-decimal a = decimal-of false (a .lower)
 unfoldable pub upper-decimal : Answer → Decimal
 upper-decimal a = decimal-of true (a .upper)
 
--- an accepted read
-unfoldable pub bracket : Encounter → ℕ → Answer
-bracket E N = record { refusal = 0; N = N; lower = lower-end E N; upper = upper-end E N; class = class-of (lower-end E N) (upper-end E N) }
+-- an accepted read: both ends at order N and their class, and "a read answers both", object and time
+unfoldable pub bracket : Conjunction → ℕ → Answer
+bracket C N =
+    let lower = lower-end (C .encounter) N in
+    let upper = upper-end (C .encounter) N in
+    record { refusal = 0; N = N; lower = lower; upper = upper; class = class-of lower upper; object = C .object; time = C .time }

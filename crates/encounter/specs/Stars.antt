@@ -12,7 +12,7 @@ use Rattle.exact.specs.Scaled.{scaled, nought, value, D, U}
 use Rattle.exact.specs.Series.{u, b, zx, zy, g, h, X, Y, t, F, c, series, exponential}
 use Rattle.exact.specs.Steps.{side-letters, side-start, side-terms, M, d, tail-bound, lower-end, upper-end}
 use Rattle.encounter.specs.declared.state.Answer.{Answer}
-use Rattle.encounter.specs.Session.{empty, state}
+use Rattle.encounter.specs.Session.{empty, state, no-object}
 use Rattle.encounter.specs.Calls.{begins, reads, call}
 
 -- a case: what is computed, and what the paper says that it is
@@ -88,7 +88,7 @@ stars =
     ∷ number-is (call (begins E₁) empty .answer .refusal) 0
     ∷ fraction-is (tail-bound E₁ 1) (1 over 4)
     ∷ fraction-is (whole 2 ⊗ value (M E₁)) (whole 1)
-    ∷ number-is (call reads (state E₁ 1) .answer .refusal) 0
+    ∷ number-is (call reads (state (no-object E₁) 1) .answer .refusal) 0
     -- ★ (8, 1, 1, 8, 0): t = 64, accepted; M = 1,056.
     ∷ fraction-is (t E₂) (whole 64)
     ∷ fraction-is (value (side-letters false E₂ .t)) (whole 64)
@@ -96,14 +96,14 @@ stars =
     ∷ number-is (call (begins E₂) empty .answer .refusal) 0
     ∷ fraction-is (value (M E₂)) (whole 1056)
     -- ★ Same: N = 2,109 gives 23, N = 2,110 is read.
-    ∷ number-is (call reads (state E₂ 2109) .answer .refusal) 23
-    ∷ number-is (call reads (state E₂ 2110) .answer .refusal) 0
+    ∷ number-is (call reads (state (no-object E₂) 2109) .answer .refusal) 23
+    ∷ number-is (call reads (state (no-object E₂) 2110) .answer .refusal) 0
     -- ★ (8, 1, 1, 8, 1): 7.
     ∷ number-is (call (begins E₃) empty .answer .refusal) 7
     -- ★ xm = −8 in place of 8: the same answers.
     ∷ answer-is (call (begins E₄) empty .answer) (call (begins E₂) empty .answer)
-    ∷ answer-is (call reads (state E₄ 2109) .answer) (call reads (state E₂ 2109) .answer)
-    ∷ answer-is (call reads (state E₄ 2110) .answer) (call reads (state E₂ 2110) .answer)
+    ∷ answer-is (call reads (state (no-object E₄) 2109) .answer) (call reads (state (no-object E₂) 2109) .answer)
+    ∷ answer-is (call reads (state (no-object E₄) 2110) .answer) (call reads (state (no-object E₂) 2110) .answer)
     -- (6, 10, 5, 7, −4): no ★ case of the paper; its letters by hand, its rounded numbers by the reference in Python
     ∷ fraction-is (u E₅) (18 over 25)
     ∷ fraction-is (b E₅) (9 over 50)

@@ -1,7 +1,7 @@
-// begin, add and read, by value.
+// begin, with and without object and time, add and read, by value.
 ghost use mathlib.Core.Path.{_≡_};
 ghost use Rattle.encounter.specs.Session.{empty as empty-session};
-ghost use Rattle.encounter.specs.Calls.{begins, adds, reads, call, Reached};
+ghost use Rattle.encounter.specs.Calls.{begins, begins-conjunction, adds, reads, call, Reached};
 ghost use Rattle.encounter.specs.Enclosure.{Demands};
 ghost use Rattle.encounter.specs.Claims.{Claims};
 
@@ -23,6 +23,7 @@ use crate::calls::ends::upper_end;
 use crate::calls::opening::opened;
 use crate::calls::tests::passes_test_7;
 use crate::calls::tests::test_inputs;
+use crate::calls::tests::test_object;
 use crate::state::Answer;
 use crate::state::Called;
 use crate::state::Letters;
@@ -31,6 +32,7 @@ use crate::state::Side;
 use crate::state::Terms;
 use crate::steps::letters::letters;
 use crate::steps::progress::advance;
+use exact::Conjunction;
 use exact::Encounter;
 use exact::LARGEST_ORDER;
 use exact::Scaled;
@@ -67,6 +69,8 @@ impl Session {
                 xm: 0,
                 ym: 0,
             },
+            object: 0,
+            time: 0,
             N: 0,
             lower: side,
             upper: side,
@@ -77,7 +81,7 @@ impl Session {
     }
 }
 
-// Begins an encounter: refused as 3 to 7, else at order N = 1.
+// Begins an encounter: refused as 3 to 7, else at order N = 1, with object and time 0.
 pub fn begin(s: Session, E: Encounter) -> Called
     requires { ⌜ Reached s ⌝ }
     ensures { λ r. ⌜ (r ≡ call (begins E) s) × Reached (r .session) ⌝ }
@@ -96,6 +100,24 @@ pub fn begin(s: Session, E: Encounter) -> Called
     } else {
         refused_on(7, s)
     }
+}
+
+// Begins an encounter with its object number and its time: refused as 3 to 7, then as 9.
+pub fn begin_conjunction(s: Session, C: Conjunction) -> Called
+    requires { ⌜ Reached s ⌝ }
+    ensures { λ r. ⌜ (r ≡ call (begins-conjunction C) s) × Reached (r .session) ⌝ }
+{
+    let E = C.encounter;
+    let begun = begin(s, E);
+    let answer = begun.answer;
+    let refusal = test_object(answer.refusal, C.object);
+    if 0 < refusal {
+        return refused_on(refusal, s);
+    }
+    let mut session = begun.session;
+    session.object = C.object;
+    session.time = C.time;
+    Called { answer, session }
 }
 
 // A side with the terms of a later order.
@@ -157,6 +179,8 @@ pub fn read(s: Session) -> Answer
             lower,
             upper,
             class,
+            object: s.object,
+            time: s.time,
         }
     } else {
         refuse(23)

@@ -30,10 +30,13 @@ pub struct Side {
     pub terms: Terms,
 }
 
-// The five inputs, the order N (0 where no encounter was begun), both sides, the upper r(256), M, and the upper d(N).
+// The five inputs, the object number and the time of closest approach (both 0 after a begin without them), the order N (0 where no encounter was begun), both
+// sides, the upper r(256), M, and the upper d(N).
 #[repr(C)]
 pub struct Session {
     pub encounter: Encounter,
+    pub object: u32,
+    pub time: u32,
     pub N: u32,
     pub lower: Side,
     pub upper: Side,
@@ -48,13 +51,15 @@ pub enum Class {
     Open,
 }
 
-// The refusal's number, or 0; then the order, both ends and the class.
+// The refusal's number, or 0; then the order, both ends and the class, and of an accepted read the object number and the time.
 pub struct Answer {
     pub refusal: u32,
     pub N: u32,
     pub lower: Scaled,
     pub upper: Scaled,
     pub class: Class,
+    pub object: u32,
+    pub time: u32,
 }
 
 // What a call answers, and the session after it.

@@ -4,7 +4,7 @@ use mathlib.Core.Bool.{Bool, true, false, cond, _||_}
 use Prim.Native.Nat.{ℕ, suc, _*_, _≤_, _<_}
 use native.Mathlib.Nat.{mul-le-mul}
 use native.Mathlib.Omega.{arith}
-use borrow.Author.Tests.{ltb-false, eqb-false}
+use borrow.Author.Tests.{ltb-false, eqb-true, eqb-false}
 use lib.Dec.{ltb, eqb}
 use lib.IntN.{pos, natAbs, _-ℤ_}
 use Rattle.exact.specs.Fraction.{_≼_, _over_, whole}
@@ -13,7 +13,7 @@ use Rattle.exact.specs.declared.Encounter.{Encounter}
 use Rattle.exact.specs.Series.{g}
 use Rattle.exact.specs.Steps.{side-letters}
 use Rattle.exact.specs.Numbers.{largest-length, largest-t}
-use Rattle.exact.specs.Refusals.{outside, miss-outside, refuses-3, refuses-4, refuses-5, refuses-6, refuses-7, begin-refusal, Accepted}
+use Rattle.exact.specs.Refusals.{outside, miss-outside, refuses-3, refuses-4, refuses-5, refuses-6, refuses-7, begin-refusal, refuses-9, test-9, Accepted}
 use Rattle.exact.specs.Private.Ranges.{tests-3-to-6, Bounds}
 use Rattle.exact.proofs.Integers.{balanced, bal-diff}
 use Rattle.exact.proofs.Order.{not-above}
@@ -75,6 +75,15 @@ unfolding begin-refusal tests-3-to-6 refuses-7
 facts {E} h =
     let (b, r) = bounds E (cond (refuses-7 E) 7 0) (h .passes) in
     record { bounds = b; t-max = not-above _ _ (passed 6 (refuses-7 E) 0 r .0) }
+
+-- where test 9 passes, so did those before
+pub test-9-passed : (earlier object : ℕ) → test-9 earlier object ≡ 0 → earlier ≡ 0
+unfolding test-9
+test-9-passed earlier object h = go (eqb earlier 0) refl h
+  where
+    go : (b : Bool) → eqb earlier 0 ≡ b → cond b (cond (refuses-9 object) 9 0) earlier ≡ 0 → earlier ≡ 0
+    go true e z = eqb-true earlier 0 e
+    go false e z = z
 
 -- "signed where something is subtracted": where sy is at most sx, g's numerator is the integer sx² − sy²
 pub g-is : (E : Encounter) → E .sy ≤ E .sx → pos (g E .num) ≡ pos (E .sx * E .sx) -ℤ pos (E .sy * E .sy)

@@ -1,4 +1,5 @@
--- Document 01, 'Script records': both tables of refusals, in their order, each test once. A test is true where it refuses.
+-- Document 01, 'Script records': both tables of refusals, in their order, each test once, with test 9 of request #104 of document 02. A test is true where it
+-- refuses.
 use mathlib.Core.Path.{_≡_}
 use mathlib.Core.Bool.{Bool, true, not, cond, _||_}
 use mathlib.Core.List.{List}
@@ -7,11 +8,12 @@ use lib.Dec.{ltb, leb, eqb}
 use lib.IntN.{ℤ, natAbs}
 use lib.ListN.{length, getD}
 use Rattle.exact.specs.declared.Encounter.{Encounter}
+use Rattle.exact.specs.declared.Conjunction.{Conjunction}
 use Rattle.exact.specs.Fraction.{whole, _⊗_, above}
 use Rattle.exact.specs.Numbers.{largest-length, largest-t, largest-order, largest-script}
 use Rattle.exact.specs.Scaled.{value}
 use Rattle.exact.specs.Steps.{side-letters, M}
-use Rattle.exact.specs.Records.{is-kind, body-length, Request, begin, add, read, bad, request-of}
+use Rattle.exact.specs.Records.{is-kind, body-length, Request, begin, begin-conjunction, add, read, bad, request-of}
 
 -- ---- "From the input, tested in this order:"
 
@@ -20,7 +22,7 @@ unfoldable pub refuses-8 : List ℕ → Bool
 refuses-8 script = ltb largest-script (length script)
 
 module _ (script : List ℕ) (position : ℕ) where
-  -- 1: no kind byte, or kind is not 1, 2 or 3
+  -- 1: no kind byte, or kind is not 1, 2, 3 or 4
   unfoldable pub refuses-1 : Bool
   refuses-1 = leb (length script) position || not (is-kind (getD script position 0))
 
@@ -65,21 +67,29 @@ module _ (E : Encounter) where
   unfoldable pub begin-refusal : ℕ
   begin-refusal = cond refuses-3 3 (cond refuses-4 4 (cond refuses-5 5 (cond refuses-6 6 (cond refuses-7 7 0))))
 
+-- 9: kind 4: object number is 0
+unfoldable pub refuses-9 : (object : ℕ) → Bool
+refuses-9 object = eqb object 0
+
+-- "9 after test 7": earlier is the number that the tests before give
+unfoldable pub test-9 : (earlier object : ℕ) → ℕ
+test-9 earlier object = cond (eqb earlier 0) (cond (refuses-9 object) 9 0) earlier
+
 -- no test of a begin refuses the encounter
 pub record Accepted (E : Encounter) : Type 0 where
   pub passes : begin-refusal E ≡ 0
 
 -- ---- "From the state, after 1 and 2:"
 
--- the state that these tests look at, told from the calls before: no encounter begun, or an encounter at order N
+-- the state that these tests look at, told from the calls before: no encounter begun, or one with its object number and its time, at order N
 pub data History : Type 0 where
   no-encounter : History
-  encounter-at : Encounter → ℕ → History
+  encounter-at : Conjunction → ℕ → History
 
 -- 21: add or read with no encounter begun; rest E N is the number that the tests after it give
 abbrev pub test-21 : History → (Encounter → ℕ → ℕ) → ℕ
 test-21 no-encounter rest = 21
-test-21 (encounter-at E N) rest = rest E N
+test-21 (encounter-at C N) rest = rest (C .encounter) N
 
 -- 22: add: N + count above 4,096
 unfoldable pub refuses-22 : (N count : ℕ) → Bool
@@ -92,6 +102,7 @@ refuses-23 E N = above (whole 2 ⊗ value (M E)) (whole (N + 2))
 -- the number under which a request is refused, or 0 where no test written for it refuses it
 unfoldable pub refusal : History → Request → ℕ
 refusal w (begin E) = begin-refusal E
+refusal w (begin-conjunction C) = test-9 (begin-refusal (C .encounter)) (C .object)
 refusal w (add count) = test-21 w (λ E N. cond (refuses-22 N count) 22 0)
 refusal w read = test-21 w (λ E N. cond (refuses-23 E N) 23 0)
 refusal w (bad r) = r

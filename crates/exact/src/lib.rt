@@ -1,4 +1,4 @@
-// The scaled number of document 01, with the constants and the constructor that belong to it, the five inputs of an encounter, a decimal, and the paper's limits.
+// The scaled number of document 01, with the constants and the constructor that belong to it, the five inputs of an encounter, a conjunction, a decimal, and the paper's limits.
 // All else in this crate is definitions (specs/) and theorems (proofs/).
 ghost use mathlib.Core.Path.{_≡_};
 ghost use mathlib.Core.Bool.{false};
@@ -27,6 +27,14 @@ pub struct Encounter {
     pub sy: u32,
     pub xm: i32,
     pub ym: i32,
+}
+
+// An encounter with the object number and the time of closest approach: "both unsigned 32-bit, the time in minutes from the epoch that the site chooses."
+#[repr(C)]
+pub struct Conjunction {
+    pub encounter: Encounter,
+    pub object: u32,
+    pub time: u32,
 }
 
 // m × 2^e: "e is a signed 32-bit number."

@@ -2,7 +2,7 @@
 ghost use mathlib.Core.Path.{_≡_};
 ghost use Rattle.exact.specs.Decimals.{decimal-of, Printed, Found, Near};
 ghost use Rattle.encounter.specs.Session.{empty as empty-session};
-ghost use Rattle.encounter.specs.Calls.{begins, adds, reads, call, Reached};
+ghost use Rattle.encounter.specs.Calls.{begins, begins-conjunction, adds, reads, call, Reached};
 ghost use Rattle.jinthuol.specs.Answer.{class-number, numbered, called};
 ghost use Rattle.jinthuol.specs.Run.{RunOf};
 ghost use Rattle.jinthuol.specs.Version.{version};
@@ -11,6 +11,7 @@ use encounter::decimals::to_decimal;
 use encounter::state;
 use encounter::state::Class;
 use encounter::state::Session;
+use exact::Conjunction;
 use exact::Decimal;
 use exact::Encounter;
 use exact::LARGEST_SCRIPT;
@@ -19,7 +20,7 @@ use listing::script::put_lines;
 use listing::script::put_too_long;
 
 // The version of the functions below and their structs; bindings/c/jinthuol.h has the same number.
-pub const VERSION: u32 = 3;
+pub const VERSION: u32 = 4;
 
 // An answer, with its class as a number.
 #[repr(C)]
@@ -29,6 +30,8 @@ pub struct Answer {
     pub lower: Scaled,
     pub upper: Scaled,
     pub class: u32,
+    pub object: u32,
+    pub time: u32,
 }
 
 // The answer of a call, and the session after it.
@@ -66,6 +69,8 @@ fn answer_of(a: state::Answer) -> Answer
         lower,
         upper,
         class: number(class),
+        object: a.object,
+        time: a.time,
     }
 }
 
@@ -83,6 +88,13 @@ fn begun(s: Session, E: Encounter) -> Called
     ensures { λ r. ⌜ (r ≡ called (call (begins E) s)) × Reached (r .session) ⌝ }
 {
     called_of(calls::begin(s, E))
+}
+
+fn begun_conjunction(s: Session, C: Conjunction) -> Called
+    requires { ⌜ Reached s ⌝ }
+    ensures { λ r. ⌜ (r ≡ called (call (begins-conjunction C) s)) × Reached (r .session) ⌝ }
+{
+    called_of(calls::begin_conjunction(s, C))
 }
 
 fn added(s: Session, count: u16) -> Called
@@ -114,6 +126,20 @@ pub extern "C" fn jinthuol_begin(session: &mut Session, encounter: Encounter) ->
 {
     let before = *session;
     let r = begun(before, encounter);
+    *session = r.session;
+    r.answer
+}
+
+#[no_mangle]
+pub extern "C" fn jinthuol_begin_conjunction(
+    session: &mut Session,
+    conjunction: Conjunction,
+) -> Answer
+    requires { ⌜ Reached (now session) ⌝ }
+    ensures { λ r. ⌜ (r ≡ numbered (call (begins-conjunction conjunction) (now (session .entry)) .answer)) × (now (session .exit) ≡ call (begins-conjunction conjunction) (now (session .entry)) .session) × Reached (now (session .exit)) ⌝ }
+{
+    let before = *session;
+    let r = begun_conjunction(before, conjunction);
     *session = r.session;
     r.answer
 }

@@ -20,7 +20,7 @@ use Rattle.encounter.specs.declared.state.Answer.{Answer}
 use Rattle.encounter.specs.Session.{lower-decimal, upper-decimal}
 use Rattle.encounter.proofs.state.Answer as A
 use Rattle.encounter.proofs.state.Answer.Laws as A′
-use Rattle.listing.specs.Line.{ascii, number-text, integer, scaled-text, class-text, ends-and-class, ends-in-decimal, read-text, taken-text, outcome-text, line, room}
+use Rattle.listing.specs.Line.{ascii, number-text, integer, scaled-text, class-text, ends-and-class, ends-in-decimal, object-and-time, added-fields, read-text, is-begin, taken-text, outcome-text, line, room}
 use Rattle.listing.proofs.NumberTexts.{decimal-10, decimal-20}
 use Rattle.listing.proofs.EndsInDecimal.{nine}
 
@@ -35,6 +35,8 @@ pub record AnswerRange (a : Answer) : Type 0 where
   pub N : a .N < 2 ^ 32
   pub lower : ScaledRange (a .lower)
   pub upper : ScaledRange (a .upper)
+  pub object : a .object < 2 ^ 32
+  pub time : a .time < 2 ^ 32
 
 scaled-range : (x : Scaled) (vs : List Val) → Is (row S.the-type) x vs → ScaledRange x
 scaled-range x vs h = let f = laws.owed S.the-type S′.the-laws x vs h in record { m = f .0 .1; e = f .1 .0 .1 }
@@ -42,7 +44,14 @@ scaled-range x vs h = let f = laws.owed S.the-type S′.the-laws x vs h in recor
 pub answer-range : (a : Answer) (vs : List Val) → Is (row A.the-type) a vs → AnswerRange a
 answer-range a vs h =
     let f = laws.owed A.the-type A′.the-laws a vs h in
-    record { refusal = f .0 .1; N = f .1 .0 .1; lower = scaled-range _ _ (f .1 .1 .0); upper = scaled-range _ _ (f .1 .1 .1 .0) }
+    record {
+      refusal = f .0 .1;
+      N = f .1 .0 .1;
+      lower = scaled-range _ _ (f .1 .1 .0);
+      upper = scaled-range _ _ (f .1 .1 .1 .0);
+      object = f .1 .1 .1 .1 .1 .0 .1;
+      time = f .1 .1 .1 .1 .1 .1 .0 .1;
+    }
 
 -- ---- the longest texts of the parts, and of a line
 
@@ -66,7 +75,7 @@ module _ (offset kind : ℕ) (a : Answer) (o : offset < 2 ^ 64) (r : AnswerRange
   Short t = length (number-text offset ++ ascii " " ++ t ++ ascii "\n") ≤ room
 
   short-read : Short (read-text a)
-  unfolding read-text ends-and-class scaled-text ends-in-decimal lower-decimal upper-decimal
+  unfolding read-text ends-and-class scaled-text added-fields ends-in-decimal lower-decimal upper-decimal object-and-time
   short-read = simp length-append (omega (
     arith,
     decimal-20 offset o,
@@ -78,6 +87,8 @@ module _ (offset kind : ℕ) (a : Answer) (o : offset < 2 ^ 64) (r : AnswerRange
     class-5 (a .class),
     nine false (a .lower),
     nine true (a .upper),
+    decimal-10 (a .object) (r .object),
+    decimal-10 (a .time) (r .time),
   ))
 
   -- the sum of the longest parts is at most the room
@@ -85,7 +96,7 @@ module _ (offset kind : ℕ) (a : Answer) (o : offset < 2 ^ 64) (r : AnswerRange
   unfolding line outcome-text taken-text
   line-short =
       either Short (eqb (a .refusal) 0)
-      (either Short (eqb kind 1)
+      (either Short (is-begin kind)
       (simp length-append (omega (arith, decimal-20 offset o)))
       (either Short (eqb kind 2)
       (simp length-append (omega (arith, decimal-20 offset o, decimal-10 (a .N) (r .N))))

@@ -4,31 +4,19 @@ use mathlib.Core.Bool.{Bool, true, false, cond, _||_}
 use mathlib.Core.List.{List, [], _++_, append-assoc}
 use Prim.Native.Nat.{ℕ, zero, suc, _+_, _-_, _*_, _≤_, _<_}
 use native.Mathlib.Omega.{arith}
-use borrow.Author.Tests.{lt-ltb, le-ltb, eq-eqb, ne-eqb}
-use lib.Dec.{ltb, eqb, T}
+use borrow.Author.Tests.{lt-ltb, le-ltb}
+use lib.Dec.{ltb, T}
 use lib.ListN.{length, take, drop, getD, length-take, length-append}
 use lib.Seq.{length-take-le}
 use Rattle.encounter.specs.declared.state.Session.{Session}
-use Rattle.encounter.specs.declared.state.Answer.{Answer}
 use Rattle.encounter.specs.declared.state.Taken.{Taken}
 use Rattle.exact.specs.Records.{body-length, bad, request-of}
 use Rattle.exact.specs.Refusals.{refuses-1, refuses-2, request-at, refusal}
 use Rattle.encounter.specs.Calls.{history-of, outcome, next-at, record-call, Reached}
 use Rattle.listing.specs.Line.{line, room}
 use Rattle.listing.specs.Put.{Put}
-use Rattle.listing.proofs.Lengths.{either}
 use Rattle.listing.proofs.Putting.{dropped}
 use Rattle.listing.specs.Listing.{is-final, lines, listing, Written, nothing, more, PieceOf}
-
--- ---- the answers that end a script
-
-pub final-one : (a : Answer) → a .refusal ≡ 1 → true ≡ is-final a
-unfolding is-final
-final-one a h = rw (eq-eqb (a .refusal) 1 h)
-
-pub final-other : (a : Answer) → (a .refusal ≡ 1 → ⊥) → eqb (a .refusal) 2 ≡ is-final a
-unfolding is-final
-final-other a h = rw (ne-eqb (a .refusal) 1 h)
 
 -- ---- a record that does not end the script lies before the next one
 

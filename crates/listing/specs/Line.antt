@@ -2,7 +2,7 @@
 use Prim.Native.Nat.{ℕ, zero, suc, _+_, _/_, _%_}
 use Prim.Native.Char.{code}
 use Prim.Native.String.{String, [] as none, _∷_ as _then_}
-use mathlib.Core.Bool.{cond}
+use mathlib.Core.Bool.{Bool, cond, _||_}
 use mathlib.Core.List.{List, [], _∷_, _++_}
 use lib.Dec.{ltb, eqb}
 use lib.IntN.{ℤ, pos, negsuc}
@@ -60,14 +60,26 @@ decimal-text d =
 unfoldable pub ends-in-decimal : Answer → List ℕ
 ends-in-decimal a = decimal-text (lower-decimal a) ++ ascii " " ++ decimal-text (upper-decimal a)
 
--- "`read N ml el mh eh class`", and "at the line's end" what request #103 adds
-unfoldable pub read-text : Answer → List ℕ
-read-text a = ascii "read " ++ number-text (a .N) ++ ascii " " ++ ends-and-class a ++ ascii " " ++ ends-in-decimal a
+-- request #104: "a read answers both", the object number and then the time
+unfoldable pub object-and-time : Answer → List ℕ
+object-and-time a = number-text (a .object) ++ ascii " " ++ number-text (a .time)
 
--- "`begun 1`, `added N` (the order after the add), [..] or `read N ml el mh eh class`": by the kind byte, 1 of a begin, 2 of an add and any other of a
+-- request #103: "Anything a ticket adds to the read line or to a read's answer is printed at the line's end, in ticket order."
+unfoldable pub added-fields : Answer → List ℕ
+added-fields a = ends-in-decimal a ++ ascii " " ++ object-and-time a
+
+-- "`read N ml el mh eh class`", and what requests add
+unfoldable pub read-text : Answer → List ℕ
+read-text a = ascii "read " ++ number-text (a .N) ++ ascii " " ++ ends-and-class a ++ ascii " " ++ added-fields a
+
+-- the kinds of a begin: 1, and by request #104 kind 4
+unfoldable pub is-begin : ℕ → Bool
+is-begin kind = eqb kind 1 || eqb kind 4
+
+-- "`begun 1`, `added N` (the order after the add), [..] or `read N ml el mh eh class`": by the kind byte, that of a begin, 2 of an add and any other of a
 -- read
 unfoldable pub taken-text : ℕ → Answer → List ℕ
-taken-text kind a = cond (eqb kind 1) (ascii "begun 1") (cond (eqb kind 2) (ascii "added " ++ number-text (a .N)) (read-text a))
+taken-text kind a = cond (is-begin kind) (ascii "begun 1") (cond (eqb kind 2) (ascii "added " ++ number-text (a .N)) (read-text a))
 
 -- "`refused r`" where the record was refused
 unfoldable pub outcome-text : ℕ → Answer → List ℕ

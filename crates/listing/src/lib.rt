@@ -3,7 +3,7 @@ ghost use mathlib.Core.Path.{_≡_};
 ghost use mathlib.Core.List.{_++_};
 ghost use lib.IntN.{natAbs};
 ghost use Rattle.exact.specs.Decimals.{decimal-of};
-ghost use Rattle.listing.specs.Line.{number-text, integer, scaled-text, class-text, ends-and-class, last-digit, decimal-text, ends-in-decimal, read-text, outcome-text, line};
+ghost use Rattle.listing.specs.Line.{number-text, integer, scaled-text, class-text, ends-and-class, last-digit, decimal-text, ends-in-decimal, object-and-time, added-fields, read-text, is-begin, outcome-text, line};
 ghost use Rattle.listing.specs.Put.{RoomFor, Put, PutLine};
 
 pub mod script;
@@ -157,6 +157,26 @@ fn put_ends_in_decimal(out: &mut [u8], at: usize, a: Answer) -> usize
     put_decimal(out, l, true, upper)
 }
 
+// The object number and the time.
+fn put_object_and_time(out: &mut [u8], at: usize, a: Answer) -> usize
+    requires { ⌜ RoomFor (now out) at (object-and-time a) ⌝ }
+    ensures { λ r. ⌜ Put (now (out .entry)) (now (out .exit)) at (object-and-time a) r ⌝ }
+{
+    let k = put_word(out, at, a.object);
+    let l = put(out, k, b" ");
+    put_word(out, l, a.time)
+}
+
+// What requests add to the line of a read.
+fn put_added_fields(out: &mut [u8], at: usize, a: Answer) -> usize
+    requires { ⌜ RoomFor (now out) at (added-fields a) ⌝ }
+    ensures { λ r. ⌜ Put (now (out .entry)) (now (out .exit)) at (added-fields a) r ⌝ }
+{
+    let k = put_ends_in_decimal(out, at, a);
+    let l = put(out, k, b" ");
+    put_object_and_time(out, l, a)
+}
+
 // What a read answered.
 fn put_read(out: &mut [u8], at: usize, a: Answer) -> usize
     requires { ⌜ RoomFor (now out) at (read-text a) ⌝ }
@@ -166,7 +186,17 @@ fn put_read(out: &mut [u8], at: usize, a: Answer) -> usize
     let l = put(out, k, b" ");
     let m = put_ends_and_class(out, l, a);
     let n = put(out, m, b" ");
-    put_ends_in_decimal(out, n, a)
+    put_added_fields(out, n, a)
+}
+
+// Whether a record of this kind is a begin.
+fn is_begin(kind: u8) -> bool
+    ensures { λ r. ⌜ r ≡ is-begin kind ⌝ }
+{
+    if kind == 1 {
+        return true;
+    }
+    kind == 4
 }
 
 // What a record was answered, by its kind byte.
@@ -175,7 +205,7 @@ fn put_outcome(out: &mut [u8], at: usize, kind: u8, a: Answer) -> usize
     ensures { λ r. ⌜ Put (now (out .entry)) (now (out .exit)) at (outcome-text kind a) r ⌝ }
 {
     if a.refusal == 0 {
-        if kind == 1 {
+        if is_begin(kind) {
             return put(out, at, b"begun 1");
         }
         if kind == 2 {

@@ -80,6 +80,8 @@ pub fn put_too_long(out: &mut [u8]) -> usize
         lower: Scaled::ZERO,
         upper: Scaled::ZERO,
         class: Class::Clear,
+        object: 0,
+        time: 0,
     };
     put_line(out, 0, 0, 0, answer)
 }

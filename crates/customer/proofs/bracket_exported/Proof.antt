@@ -9,6 +9,9 @@ jinthuol-empty-requires c κs = search needs
 begin-exported-requires : tie.Need-begin-exported-requires
 begin-exported-requires c κs = search needs
 
+begin-conjunction-exported-requires : tie.Need-begin-conjunction-exported-requires
+begin-conjunction-exported-requires c κs = search needs
+
 add-exported-requires : tie.Need-add-exported-requires
 add-exported-requires c κs = search needs
 
@@ -17,7 +20,7 @@ jinthuol-read-requires c κs = search needs
 
 returns : tie.Need-returns
 unfolding called
-returns c = rw (c .jinthuol-read .ensures, c .before .add-exported .ensures .0, c .before .before .begin-exported .ensures .0, c .before .before .before .jinthuol-empty .ensures .0)
+returns c = rw (c .jinthuol-read .ensures, c .before .add-exported .ensures .0, c .before .before .begin-conjunction-exported .ensures .0, c .before .before .before .begin-exported .ensures .0, c .before .before .before .before .jinthuol-empty .ensures .0)
 
 pub bracket-exported-spec : {M : Type 1} → statement M
-bracket-exported-spec = tie.close (tie.spec jinthuol-empty-requires begin-exported-requires add-exported-requires jinthuol-read-requires returns)
+bracket-exported-spec = tie.close (tie.spec jinthuol-empty-requires begin-exported-requires begin-conjunction-exported-requires add-exported-requires jinthuol-read-requires returns)

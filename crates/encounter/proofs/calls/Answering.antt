@@ -1,10 +1,10 @@
 -- The calls by cases, as code takes them.
 use mathlib.Core.Path.{_≡_, refl, sym, _∙_, subst, ap}
-use mathlib.Core.Bool.{Bool, true, false, not, cond, _||_}
+use mathlib.Core.Bool.{Bool, true, false, cond}
 use Prim.Native.Nat.{ℕ, suc, pred, _+_, _≤_, _<_}
 use native.Mathlib.Omega.{arith}
-use borrow.Author.Tests.{lt-ltb, le-ltb, eq-eqb, ne-eqb, ltb-true, ltb-false}
-use lib.Dec.{ltb, T}
+use borrow.Author.Tests.{lt-ltb, le-ltb, eq-eqb, ne-eqb, eqb-true, ltb-true, ltb-false}
+use lib.Dec.{ltb, eqb, T}
 use lib.IntN.{ℤ, pos, negsuc}
 use lib.Signed.{ltZ}
 use Rattle.exact.specs.declared.Encounter.{Encounter}
@@ -12,15 +12,15 @@ use Rattle.exact.specs.declared.Scaled.{Scaled}
 use Rattle.exact.specs.Numbers.{largest-length, largest-order}
 use Rattle.exact.specs.Private.Ranges.{tests-3-to-6, Bounds}
 use Rattle.exact.specs.Steps.{lower-end, upper-end}
-use Rattle.exact.specs.Records.{Request, begin, add, read}
-use Rattle.exact.specs.Refusals.{outside, miss-outside, refuses-3, refuses-4, refuses-5, refuses-6, refuses-7, begin-refusal, Accepted, History, no-encounter, encounter-at, refuses-22, refuses-23, refusal}
+use Rattle.exact.specs.Records.{Request, begin, begin-conjunction, add, read, bad}
+use Rattle.exact.specs.Refusals.{History, outside, miss-outside, refuses-3, refuses-4, refuses-5, refuses-6, refuses-7, begin-refusal, Accepted, no-encounter, encounter-at, refuses-22, refuses-23, refusal}
 use Rattle.exact.proofs.Accepted.{bounds}
 use Rattle.encounter.specs.declared.state.Session.{Session}
 use Rattle.encounter.specs.declared.state.Answer.{Answer}
 use Rattle.encounter.specs.declared.state.Class.{Class}
 use Rattle.encounter.specs.declared.state.Called.{Called}
-use Rattle.encounter.specs.Session.{state, refused, counted, bracket, class-of}
-use Rattle.encounter.specs.Calls.{history-after, session-of, history-of, accepted-answer, outcome, Call, begins, adds, reads, call, Reached, after}
+use Rattle.encounter.specs.Session.{state, no-object, conjunction-of, refused, counted, bracket, class-of}
+use Rattle.encounter.specs.Calls.{history-after, session-of, history-of, accepted-answer, refusing, outcome, Call, begins, adds, reads, call, Reached, after}
 
 -- ---- the tests of a begin
 
@@ -88,12 +88,34 @@ module _ (s : Session) (q : Request) where
   unfolding outcome
   taken-is e f g = rw (f, g, e)
 
+-- the number that is answered
+accepted-number : (q : Request) (w : History) → refusal w q ≡ 0 → accepted-answer q (history-after w q) .refusal ≡ refusal w q
+unfolding refusal bracket
+accepted-number (begin E) w z = sym z
+accepted-number (begin-conjunction C) w z = sym z
+accepted-number (add count) no-encounter z = sym z
+accepted-number (add count) (encounter-at C N) z = sym z
+accepted-number read no-encounter z = refl
+accepted-number read (encounter-at C N) z = sym z
+accepted-number (bad r) w z = refl
+
+pub number : (w : History) (q : Request) (s : Session) → outcome w q s .answer .refusal ≡ refusal w q
+unfolding outcome
+number w q s = go (eqb (refusal w q) 0) refl
+  where
+    done : Called
+    done = record { answer = accepted-answer q (history-after w q); session = session-of (history-after w q) }
+
+    go : (b : Bool) → eqb (refusal w q) 0 ≡ b → cond b done (refusing (refusal w q) s) .answer .refusal ≡ refusal w q
+    go true e = accepted-number q w (eqb-true (refusal w q) 0 e)
+    go false e = refl
+
 -- the history that the fields tell
 pub history-none : (s : Session) → s .N ≡ 0 → history-of s ≡ no-encounter
 unfolding history-of
 history-none s z = rw (eq-eqb (s .N) 0 z)
 
-pub history-some : (s : Session) → (s .N ≡ 0 → ⊥) → history-of s ≡ encounter-at (s .encounter) (s .N)
+pub history-some : (s : Session) → (s .N ≡ 0 → ⊥) → history-of s ≡ encounter-at (conjunction-of s) (s .N)
 unfolding history-of
 history-some s some = rw (ne-eqb (s .N) 0 some)
 
@@ -156,7 +178,7 @@ module _ (E : Encounter) (s : Session) where
     pub accepted : refuses-7 E ≡ false → Accepted E
     accepted t = record { passes = test-7 ∙ rw t }
 
-    pub begin-taken : {a : Answer} {n : Session} → refuses-7 E ≡ false → a ≡ counted 1 → n ≡ state E 1 → record { answer = a; session = n } ≡ call (begins E) s
+    pub begin-taken : {a : Answer} {n : Session} → refuses-7 E ≡ false → a ≡ counted 1 → n ≡ state (no-object E) 1 → record { answer = a; session = n } ≡ call (begins E) s
     begin-taken t f g = taken-is s (begin E) (unfold refusal in test-7 ∙ rw t) f g
 
 -- ---- add
@@ -169,7 +191,7 @@ module _ (s : Session) (count : ℕ) where
     pub add-22 : {a : Answer} → largest-order < s .N + count → a ≡ refused 22 → record { answer = a; session = s } ≡ call (adds count) s
     add-22 l f = refused-is s (add count) 22 (unfold refusal refuses-22 in rw (history-some s some, lt-ltb largest-order (s .N + count) l)) (λ z. omega arith) f
 
-    pub add-taken : {a : Answer} {n : Session} → s .N + count ≤ largest-order → a ≡ counted (s .N + count) → n ≡ state (s .encounter) (s .N + count)
+    pub add-taken : {a : Answer} {n : Session} → s .N + count ≤ largest-order → a ≡ counted (s .N + count) → n ≡ state (conjunction-of s) (s .N + count)
         → record { answer = a; session = n } ≡ call (adds count) s
     add-taken l f g =
         taken-is s (add count) (unfold refusal refuses-22 in rw (history-some s some, le-ltb largest-order (s .N + count) l)) (rw (history-some s some) f) (rw (history-some s some) g)
@@ -188,10 +210,10 @@ module _ (s : Session) where
     pub read-23 : {a : Answer} → refuses-23 (s .encounter) (s .N) ≡ true → a ≡ refused 23 → a ≡ call reads s .answer
     read-23 r f = answer-of (refused-is s read 23 (unfold refusal in rw (history-some s some, r)) (λ z. omega arith) f)
 
-    pub read-taken : {a : Answer} → refuses-23 (s .encounter) (s .N) ≡ false → a ≡ bracket (s .encounter) (s .N) → a ≡ call reads s .answer
+    pub read-taken : {a : Answer} → refuses-23 (s .encounter) (s .N) ≡ false → a ≡ bracket (conjunction-of s) (s .N) → a ≡ call reads s .answer
     read-taken r f = answer-of (taken-is s read (unfold refusal in rw (history-some s some, r)) (rw (history-some s some) f) refl)
 
   pub bracket-is : {x y : Scaled} {k : Class} → x ≡ lower-end (s .encounter) (s .N) → y ≡ upper-end (s .encounter) (s .N) → k ≡ class-of x y
-      → record { refusal = 0; N = s .N; lower = x; upper = y; class = k } ≡ bracket (s .encounter) (s .N)
+      → record { refusal = 0; N = s .N; lower = x; upper = y; class = k; object = s .object; time = s .time } ≡ bracket (conjunction-of s) (s .N)
   unfolding bracket
   bracket-is ex ey ek = rw (ek, ex, ey)

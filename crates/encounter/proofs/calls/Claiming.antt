@@ -7,7 +7,7 @@ use Rattle.exact.proofs.Accepted.{g-is}
 use Rattle.exact.proofs.Order.{half-exact, double-exact}
 use Rattle.exact.proofs.Unrounded.{letters-are, term-is, sum-is, powers-are, bound-is}
 use Rattle.encounter.specs.Claims.{Claims, Unrounded}
-use Rattle.encounter.proofs.calls.Stars.{stars-hold, mirror-begin, mirror-add, mirror-read}
+use Rattle.encounter.proofs.calls.Stars.{stars-hold, mirror-begin, mirror-begin-conjunction, mirror-add, mirror-read}
 use Rattle.encounter.proofs.calls.Classes.{classes, no-reversal, never-falls, alert-remains}
 use Rattle.encounter.proofs.calls.PrintedEnds.{decimals}
 
@@ -31,6 +31,7 @@ claims = record {
   unrounded = unrounded;
   star-cases = stars-hold;
   mirror-begin = mirror-begin;
+  mirror-begin-conjunction = mirror-begin-conjunction;
   mirror-add = mirror-add;
   mirror-read = mirror-read;
   classes = classes;

@@ -3,7 +3,7 @@ use mathlib.Core.Path.{_≡_, refl, sym, _∙_, ap}
 use mathlib.Core.Bool.{Bool, true, false, not, _&&_, false≢true, Bool·not-not}
 use Prim.Native.Nat.{ℕ, _+_, _≤_}
 use native.Mathlib.Omega.{arith}
-use Rattle.exact.specs.declared.Encounter.{Encounter}
+use Rattle.exact.specs.declared.Conjunction.{Conjunction}
 use Rattle.exact.specs.declared.Scaled.{Scaled}
 use Rattle.exact.specs.Fraction.{Frac, _≼_, above}
 use Rattle.exact.specs.Numbers.{exponential-cut}
@@ -18,7 +18,7 @@ use Rattle.exact.proofs.Order.{at-most-yes, at-most-holds}
 use Rattle.encounter.specs.declared.state.Session.{Session}
 use Rattle.encounter.specs.declared.state.Class.{Class}
 use Rattle.encounter.specs.declared.state.Class.the-variants.{Clear, Alert, Open}
-use Rattle.encounter.specs.Session.{falls-under, class-of, bracket}
+use Rattle.encounter.specs.Session.{conjunction-of, falls-under, class-of, bracket}
 use Rattle.encounter.specs.Calls.{reads, call}
 use Rattle.encounter.specs.Claims.{Readable, OneEncounter, Classed}
 use Rattle.encounter.proofs.calls.AcceptedReads.{read-of}
@@ -84,11 +84,11 @@ module _ (x y : Scaled) (l : value x ≼ value y) where
 
 -- ---- an accepted read
 
-module _ {E : Encounter} (h : Accepted E) (N : ℕ) (l : 1 ≤ N) (r : refuses-23 E N ≡ false) where
-  in-order : value (lower-end E N) ≼ value (upper-end E N)
+module _ (C : Conjunction) (h : Accepted (C .encounter)) (N : ℕ) (l : 1 ≤ N) (r : refuses-23 (C .encounter) N ≡ false) where
+  in-order : value (lower-end (C .encounter) N) ≼ value (upper-end (C .encounter) N)
   in-order = let (a, b) = enclosed h N l r N exponential-cut (omega arith) (omega arith) in ≼-trans a b
 
-  of-read : Classed E N (bracket E N)
+  of-read : Classed (C .encounter) N (bracket C N)
   unfolding bracket
   of-read =
       let own = its-own _ _ in-order in
@@ -101,7 +101,7 @@ module _ {E : Encounter} (h : Accepted E) (N : ℕ) (l : 1 ≤ N) (r : refuses-2
       }
 
 pub classes : {s : Session} → Readable s → Classed (s .encounter) (s .N) (call reads s .answer)
-classes {s} r = let f = read-of r in rw (f .is) (of-read (f .fine) (s .N) (f .low) (f .passes))
+classes {s} r = let f = read-of r in rw (f .is) (of-read (conjunction-of s) (f .fine) (s .N) (f .low) (f .passes))
 
 -- ---- two reads of one encounter
 

@@ -8,11 +8,11 @@ use native.Mathlib.Nat.{eq-zero-or-pos, add-zero}
 use native.Mathlib.Omega.{arith}
 use borrow.Author.Tests.{ltb-false, le-ltb, eqb-true, ne-eqb}
 use lib.Dec.{eqb}
-use Rattle.exact.specs.declared.Encounter.{Encounter}
+use Rattle.exact.specs.declared.Conjunction.{Conjunction}
 use Rattle.exact.specs.Numbers.{largest-order}
-use Rattle.exact.specs.Records.{Request, begin, add, read, bad}
+use Rattle.exact.specs.Records.{Request, begin, begin-conjunction, add, read, bad}
 use Rattle.exact.specs.Refusals.{Accepted, History, no-encounter, encounter-at, refuses-22, refuses-23, refusal}
-use Rattle.exact.proofs.Accepted.{passed}
+use Rattle.exact.proofs.Accepted.{passed, test-9-passed}
 use Rattle.exact.proofs.Enclosure.{enclosed}
 use Rattle.exact.proofs.Closeness.{ends-close}
 use Rattle.encounter.specs.declared.state.Session.{Session}
@@ -20,12 +20,13 @@ use Rattle.encounter.specs.declared.state.Called.{Called}
 use Rattle.encounter.specs.Session.{empty, state, counted, bracket}
 use Rattle.encounter.specs.Private.Held.{Begun}
 use Rattle.encounter.specs.Calls.{history-after, follow, session-of, history-of, accepted-answer, refusing, outcome, Call, adds, asked, call, Reached, from-empty, after}
-use Rattle.encounter.specs.Enclosure.{Claim, Every, places, Encloses, Demands}
+use Rattle.encounter.specs.Enclosure.{Claim, Every, places, Encloses, Named, Demands}
+use Rattle.encounter.proofs.calls.Answering.{number}
 
 -- the session s, where the requests so far tell w
 pub data Whole : Session → History → Type 0 where
   nothing : Whole empty no-encounter
-  at : {E : Encounter} {N : ℕ} → Accepted E → 1 ≤ N → N ≤ largest-order → Whole (state E N) (encounter-at E N)
+  at : {C : Conjunction} {N : ℕ} → Accepted (C .encounter) → 1 ≤ N → N ≤ largest-order → Whole (state C N) (encounter-at C N)
 
 pub session-is : {s : Session} {w : History} → Whole s w → s ≡ session-of w
 session-is nothing = refl
@@ -34,14 +35,15 @@ session-is (at h l u) = refl
 pub history-is : {s : Session} {w : History} → Whole s w → history-of s ≡ w
 unfolding history-of state
 history-is nothing = refl
-history-is (at {E} {N} h l u) = rw (ne-eqb N 0 (λ z. omega arith))
+history-is (at {C} {N} h l u) = rw (ne-eqb N 0 (λ z. omega arith))
 
 -- the session after an accepted request
 taken-whole : {s : Session} {w : History} → Whole s w → (q : Request) → refusal w q ≡ 0 → Whole (session-of (history-after w q)) (history-after w q)
 unfolding refusal refuses-22
 taken-whole h (begin E) z = at {N = 1} (record { passes = z }) (omega arith) (omega arith)
+taken-whole h (begin-conjunction C) z = at {N = 1} (record { passes = test-9-passed _ (C .object) z }) (omega arith) (omega arith)
 taken-whole nothing (add count) z = nothing
-taken-whole (at {E} {N} h l u) (add count) z = at {N = N + count} h (omega arith) (ltb-false largest-order (N + count) (passed 21 (refuses-22 N count) 0 z .0))
+taken-whole (at {C} {N} h l u) (add count) z = at {N = N + count} h (omega arith) (ltb-false largest-order (N + count) (passed 21 (refuses-22 N count) 0 z .0))
 taken-whole nothing read z = nothing
 taken-whole (at h l u) read z = at h l u
 taken-whole nothing (bad r) z = nothing
@@ -61,27 +63,9 @@ module _ {s : Session} {w : History} (h : Whole s w) (q : Request) where
       go true e = taken-whole h q (eqb-true (refusal w q) 0 e)
       go false e = h
 
-  -- the number that is answered
-  accepted-number : (q : Request) (w : History) → refusal w q ≡ 0 → accepted-answer q (history-after w q) .refusal ≡ refusal w q
-  unfolding refusal bracket
-  accepted-number (begin E) w z = sym z
-  accepted-number (add count) no-encounter z = sym z
-  accepted-number (add count) (encounter-at E N) z = sym z
-  accepted-number read no-encounter z = refl
-  accepted-number read (encounter-at E N) z = sym z
-  accepted-number (bad r) w z = refl
-
-  pub number : outcome w q s .answer .refusal ≡ refusal w q
-  unfolding outcome done
-  number = go (eqb (refusal w q) 0) refl
-    where
-      go : (b : Bool) → eqb (refusal w q) 0 ≡ b → cond b done (refusing (refusal w q) s) .answer .refusal ≡ refusal w q
-      go true e = accepted-number q w (eqb-true (refusal w q) 0 e)
-      go false e = refl
-
 -- an accepted read
 Read : History → Called → Type 0
-Read w r = (E : Encounter) × (N : ℕ) × (w ≡ encounter-at E N) × Encloses E N (r .answer)
+Read w r = (C : Conjunction) × (N : ℕ) × (w ≡ encounter-at C N) × Encloses (C .encounter) N (r .answer) × Named C (r .answer)
 
 not-zero : {A : Type 0} (n : ℕ) → suc n ≡ 0 → A
 not-zero n z = let f : ⊥ = omega arith in absurd f
@@ -89,11 +73,18 @@ not-zero n z = let f : ⊥ = omega arith in absurd f
 enclosing : {s : Session} {w : History} → Whole s w → refusal w read ≡ 0 → Read w (outcome w read s)
 unfolding Read refusal
 enclosing nothing z = not-zero 20 z
-enclosing (at {E} {N} h l u) z = unfold outcome refusal bracket in rw z (
-  E,
+enclosing (at {C} {N} h l u) z = unfold outcome refusal bracket in rw z (
+  C,
   N,
   refl,
-  record { order-is = refl; lower-is = refl; upper-is = refl; between = enclosed h N l (passed 22 (refuses-23 E N) 0 z .0); close = ends-close h N l },
+  record {
+    order-is = refl;
+    lower-is = refl;
+    upper-is = refl;
+    between = enclosed h N l (passed 22 (refuses-23 (C .encounter) N) 0 z .0);
+    close = ends-close h N l;
+  },
+  record { object-is = refl; time-is = refl },
 )
 
 -- a call on such a session is what the history tells
@@ -106,7 +97,7 @@ keeps h c = rw (by-history h c) (kept h (asked c))
 claim : {s : Session} {w : History} → Whole s w → (c : Call) → Claim (record { history = w; request = asked c; answer = call c s .answer; session = call c s .session })
 unfolding Read
 claim {s} {w} h c = record {
-  number = rw (by-history h c) (number h (asked c));
+  number = rw (by-history h c) (number w (asked c) s);
   answer = rw (by-history h c) (ap (λ (s : Session). outcome w (asked c) s .answer) (session-is h));
   session = session-is (keeps h c);
   enclosed = λ e z. rw (by-history h c, e) (enclosing h z);

@@ -4,8 +4,8 @@ use mathlib.Core.Bool.{Bool, true, false, cond}
 use mathlib.Core.List.{List}
 use Prim.Native.Nat.{ℕ, zero, suc, _+_, _-_, _≤_, _<_}
 use native.Mathlib.Omega.{arith}
-use native.Mathlib.Nat.{zero-add, add-zero}
-use borrow.Author.Tests.{lt-ltb, le-ltb, le-leb, lt-leb, eq-eqb, ne-eqb}
+use native.Mathlib.Nat.{zero-add}
+use borrow.Author.Tests.{lt-ltb, le-ltb, le-leb, lt-leb, ne-eqb}
 use borrow.Author.Needs.{sfits-of}
 use lib.Dec.{eqb}
 use lib.ListN.{length, getD}
@@ -13,15 +13,14 @@ use lib.IntN.{pos, negsuc, _-ℤ_}
 use mir.Syntax.{w32}
 use mir.Val.{SFits, toZ}
 use mir.ValLaws.{toZ-pos}
-use Rattle.exact.specs.declared.Encounter.{Encounter}
-use Rattle.exact.specs.Records.{is-kind, body-length, u16-at, signed, begin-at, Request, begin, add, read, bad, request-of}
-use Rattle.exact.specs.Refusals.{refuses-1, refuses-2, request-at, History, refusal}
+use Rattle.exact.specs.Records.{is-kind, body-length, u16-at, signed, begin-at, conjunction-at, Request, begin, begin-conjunction, add, read, bad, request-of}
+use Rattle.exact.specs.Refusals.{refuses-1, refuses-2, request-at, refusal}
 use Rattle.encounter.specs.declared.state.Session.{Session}
 use Rattle.encounter.specs.declared.state.Answer.{Answer}
 use Rattle.encounter.specs.declared.state.Called.{Called}
 use Rattle.encounter.specs.declared.state.Taken.{Taken}
 use Rattle.encounter.specs.Session.{refused}
-use Rattle.encounter.specs.Calls.{history-after, session-of, history-of, accepted-answer, refusing, outcome, begins, adds, reads, takes, call, next-at, record-call, Reached, after}
+use Rattle.encounter.specs.Calls.{session-of, history-of, accepted-answer, refusing, outcome, reads, takes, call, next-at, record-call, Reached, after}
 use Rattle.encounter.proofs.calls.Answering.{refused-is}
 use Rattle.encounter.proofs.calls.Invariant.{told}
 
@@ -76,13 +75,22 @@ module _ (l : List ℕ) (i : ℕ) where
     unfolding request-at next-at request-of refuses-1 refuses-2 is-kind body-length
     a-read k = let e = le-ltb (length l) (i + 1 + 0) (omega arith) in (rw (lt-leb (length l) i h, k, e), let n : next-at l i ≡ i + 1 + 0 = rw (lt-leb (length l) i h, k, e) in n ∙ omega arith)
 
-    pub no-kind : (getD l i 0 ≡ 1 → ⊥) → (getD l i 0 ≡ 2 → ⊥) → (getD l i 0 ≡ 3 → ⊥) → At l i (bad 1) i
+    pub conjunction-short : getD l i 0 ≡ 4 → length l - i < 29 → At l i (bad 2) i
+    unfolding request-at next-at refuses-1 refuses-2 is-kind body-length
+    conjunction-short k m = let e = lt-ltb (length l) (i + 1 + 28) (omega arith) in (rw (lt-leb (length l) i h, k, e), rw (lt-leb (length l) i h, k, e))
+
+    pub conjunction-whole : getD l i 0 ≡ 4 → 29 ≤ length l - i → At l i (begin-conjunction (conjunction-at l (i + 1))) (i + 29)
+    unfolding request-at next-at request-of refuses-1 refuses-2 is-kind body-length
+    conjunction-whole k m = let e = le-ltb (length l) (i + 1 + 28) (omega arith) in (rw (lt-leb (length l) i h, k, e), let n : next-at l i ≡ i + 1 + 28 = rw (lt-leb (length l) i h, k, e) in n ∙ omega arith)
+
+    pub no-kind : (getD l i 0 ≡ 1 → ⊥) → (getD l i 0 ≡ 2 → ⊥) → (getD l i 0 ≡ 3 → ⊥) → (getD l i 0 ≡ 4 → ⊥) → At l i (bad 1) i
     unfolding request-at next-at refuses-1 is-kind
-    no-kind a b c =
-        let x = ne-eqb (getD l i 0) 1 a in
-        let y = ne-eqb (getD l i 0) 2 b in
-        let z = ne-eqb (getD l i 0) 3 c in
-        (rw (lt-leb (length l) i h, x, y, z), rw (lt-leb (length l) i h, x, y, z))
+    no-kind a b c d =
+        let w = ne-eqb (getD l i 0) 1 a in
+        let x = ne-eqb (getD l i 0) 2 b in
+        let y = ne-eqb (getD l i 0) 3 c in
+        let z = ne-eqb (getD l i 0) 4 d in
+        (rw (lt-leb (length l) i h, w, x, y, z), rw (lt-leb (length l) i h, w, x, y, z))
 
 -- ---- its call
 

@@ -1,4 +1,4 @@
--- The session, the inputs and the answers as Lending.antt takes them, and what a lent call of this crate promises.
+-- The session, the inputs, a conjunction and the answers as Lending.antt takes them, and what a lent call of this crate promises.
 use mathlib.Core.Path.{_≡_, ap}
 use denote.Struct.Laws as laws
 use Rattle.encounter.specs.declared.state.Session.{Session}
@@ -14,6 +14,8 @@ use Rattle.encounter.proofs.state.Called as C
 use Rattle.encounter.proofs.state.Called.Laws as C′
 use Rattle.exact.proofs.Encounter as E
 use Rattle.exact.proofs.Encounter.Laws as E′
+use Rattle.exact.proofs.Conjunction as J
+use Rattle.exact.proofs.Conjunction.Laws as J′
 
 abbrev pub session : Plainly
 session = of-struct S.the-type S′.the-laws S′.the-plain S′.the-copy
@@ -34,6 +36,9 @@ called = record {
 
 abbrev pub inputs : Plainly
 inputs = of-struct E.the-type E′.the-laws E′.the-plain E′.the-copy
+
+abbrev pub conjunction : Plainly
+conjunction = of-struct J.the-type J′.the-laws J′.the-plain J′.the-copy
 
 -- a call with one argument: by value, and lent
 module _ {A : Type 0} (of : A → Call) where

@@ -13,7 +13,7 @@ use Rattle.exact.proofs.Exponents.{letters-in, start-in, tail-in, bound-in}
 use Rattle.encounter.specs.declared.state.Letters.{Letters}
 use Rattle.encounter.specs.declared.state.Side.{Side}
 use Rattle.encounter.specs.declared.state.Terms.{Terms}
-use Rattle.encounter.specs.Session.{state, side}
+use Rattle.encounter.specs.Session.{state, no-object, side}
 use Rattle.encounter.specs.Private.Held.{held-letters, step-letters, held-terms, T-of}
 
 pub letters-fine : (up : Bool) (E : Encounter) {l : Letters} → Bounds E → l ≡ held-letters (side-letters up E) → Letters-in (step-letters l)
@@ -59,7 +59,7 @@ bound-fine E f el em = rw em (bound-in true _ (letters-fine true E f el))
 
 pub opened-is : (E : Encounter) {l : Letters} {lo hi : Side} {r m x : Scaled} → l ≡ held-letters (side-letters true E)
     → lo ≡ side false E 1 → hi ≡ side true E 1 → r ≡ r256 E → m ≡ bound value (round true 32) (step-letters l) → x ≡ next-d value (round true 32) m 0 (hi .terms .c)
-    → record { encounter = E; N = 1; lower = lo; upper = hi; r256 = r; M = m; d = x } ≡ state E 1
+    → record { encounter = E; object = 0; time = 0; N = 1; lower = lo; upper = hi; r256 = r; M = m; d = x } ≡ state (no-object E) 1
 unfolding state M d
 opened-is E el eo eh er em ex =
     rw (ex, em, er, eh, eo, el, start-of true E, tail-one (side-start true E) (bound value (round true 32) (side-letters true E)))

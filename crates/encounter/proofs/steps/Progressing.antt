@@ -21,7 +21,7 @@ use Rattle.encounter.specs.declared.steps.progress.Progress.{Progress}
 use Rattle.encounter.specs.declared.arithmetic.wide.Wide.{Wide}
 use Rattle.encounter.specs.declared.steps.sides.LetterPairs.{LetterPairs}
 use Rattle.encounter.specs.declared.steps.sides.TermPairs.{TermPairs}
-use Rattle.encounter.specs.Session.{side, state}
+use Rattle.encounter.specs.Session.{side, state, conjunction-of}
 use Rattle.encounter.specs.Private.Held.{held-letters, step-letters, held-terms, step-terms, progress, Begun}
 use Rattle.encounter.specs.Private.Loops.{narrow, letters-of, terms-of}
 use Rattle.encounter.proofs.steps.Pairs.{by-side}
@@ -156,7 +156,7 @@ module _ (s : Session) (b : Begun s) where
   at-index : (n : ℕ) (p : Progress) (lo hi : Side) → p ≡ progress (s .encounter) n
       → lo ≡ record { letters = s .lower .letters; exponential = s .lower .exponential; terms = p .lower }
       → hi ≡ record { letters = s .upper .letters; exponential = s .upper .exponential; terms = p .upper }
-      → record { encounter = s .encounter; N = suc n; lower = lo; upper = hi; r256 = s .r256; M = s .M; d = p .d } ≡ state (s .encounter) (suc n)
+      → record { encounter = s .encounter; object = s .object; time = s .time; N = suc n; lower = lo; upper = hi; r256 = s .r256; M = s .M; d = p .d } ≡ state (conjunction-of s) (suc n)
   unfolding state side progress
   at-index n p lo hi e f g =
       let le = ap (λ (x : Session). x .lower .exponential) (b .is) in
@@ -167,6 +167,6 @@ module _ (s : Session) (b : Begun s) where
   pub added-is : (N : ℕ) (p : Progress) (lo hi : Side) → 1 ≤ N → p ≡ progress (s .encounter) (N - 1)
       → lo ≡ record { letters = s .lower .letters; exponential = s .lower .exponential; terms = p .lower }
       → hi ≡ record { letters = s .upper .letters; exponential = s .upper .exponential; terms = p .upper }
-      → record { encounter = s .encounter; N = N; lower = lo; upper = hi; r256 = s .r256; M = s .M; d = p .d } ≡ state (s .encounter) N
+      → record { encounter = s .encounter; object = s .object; time = s .time; N = N; lower = lo; upper = hi; r256 = s .r256; M = s .M; d = p .d } ≡ state (conjunction-of s) N
   added-is zero p lo hi l e f g = let f : ⊥ = omega arith in absurd f
   added-is (suc n) p lo hi l e f g = let k : suc n - 1 ≡ n = omega arith in at-index n p lo hi (rw k at e) f g

@@ -14,7 +14,7 @@ use Rattle.encounter.specs.declared.state.Session.{Session}
 use Rattle.encounter.specs.declared.state.Called.{Called}
 use Rattle.encounter.specs.declared.state.Taken.{Taken}
 use Rattle.encounter.specs.declared.steps.progress.Progress.{Progress}
-use Rattle.encounter.specs.Session.{state}
+use Rattle.encounter.specs.Session.{state, conjunction-of}
 
 abbrev pub held-letters : LettersOf Scaled → Letters
 held-letters l = record { u = l .u; h = l .h; X = l .X; Y = l .Y; t = l .t }
@@ -45,4 +45,4 @@ pub record Begun (s : Session) : Type 0 where
   pub fine : Accepted (s .encounter)
   pub low : 1 ≤ s .N
   pub high : s .N ≤ largest-order
-  pub is : s ≡ state (s .encounter) (s .N)
+  pub is : s ≡ state (conjunction-of s) (s .N)

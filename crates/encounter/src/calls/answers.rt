@@ -16,6 +16,8 @@ pub fn refuse(r: u32) -> Answer
         lower: Scaled::ZERO,
         upper: Scaled::ZERO,
         class: Class::Clear,
+        object: 0,
+        time: 0,
     }
 }
 
@@ -39,5 +41,7 @@ pub fn count_to(n: u32) -> Answer
         lower: Scaled::ZERO,
         upper: Scaled::ZERO,
         class: Class::Clear,
+        object: 0,
+        time: 0,
     }
 }

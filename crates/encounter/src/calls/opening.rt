@@ -1,10 +1,10 @@
-// The session of an accepted encounter at order 1.
+// The session of an accepted encounter at order 1, without object and time.
 ghost use mathlib.Core.Path.{_≡_};
 ghost use mathlib.Core.Bool.{true};
 ghost use Rattle.exact.specs.Private.Ranges.{Bounds};
 ghost use Rattle.exact.specs.Refusals.{Accepted};
 ghost use Rattle.exact.specs.Steps.{side-letters, exponential-sum};
-ghost use Rattle.encounter.specs.Session.{side, state};
+ghost use Rattle.encounter.specs.Session.{side, state, no-object};
 ghost use Rattle.encounter.specs.Private.Held.{held-letters};
 use crate::state::Letters;
 use crate::state::Session;
@@ -34,7 +34,7 @@ fn open_side(up: bool, E: Encounter, l: Letters, exponential: Scaled) -> Side
 // From the upper letters, which test 7 needed.
 pub fn opened(E: Encounter, above: Letters) -> Session
     requires { ⌜ (Accepted E) × (above ≡ held-letters (side-letters true E)) ⌝ }
-    ensures { λ r. ⌜ r ≡ state E 1 ⌝ }
+    ensures { λ r. ⌜ r ≡ state (no-object E) 1 ⌝ }
 {
     let below = letters(false, E);
     let sums = exponential_sums(below.t, above.t);
@@ -45,6 +45,8 @@ pub fn opened(E: Encounter, above: Letters) -> Session
     let r256 = sums.r256;
     Session {
         encounter: E,
+        object: 0,
+        time: 0,
         N: 1,
         lower,
         upper,

@@ -2,9 +2,9 @@
 ghost use mathlib.Core.Path.{_≡_};
 ghost use Prim.Native.Nat.{_+_, _≤_};
 ghost use lib.ListN.{length};
-ghost use Rattle.exact.specs.Records.{u16-at, begin-at};
+ghost use Rattle.exact.specs.Records.{u16-at, begin-at, conjunction-at};
 ghost use Rattle.encounter.specs.Session.{refused};
-ghost use Rattle.encounter.specs.Calls.{begins, adds, call, record-call, Reached};
+ghost use Rattle.encounter.specs.Calls.{begins, begins-conjunction, adds, call, record-call, Reached};
 ghost use Rattle.encounter.specs.Private.Held.{made-of};
 use crate::calls;
 use crate::calls::answers::refuse;
@@ -14,6 +14,7 @@ use crate::calls::bytes::u32_at;
 use crate::state::Called;
 use crate::state::Session;
 use crate::state::Taken;
+use exact::Conjunction;
 use exact::Encounter;
 
 // The five inputs of a body that lies within the script.
@@ -27,6 +28,21 @@ fn encounter_at(script: &[u8], at: usize) -> Encounter
     let xm = signed_at(script, at + 12);
     let ym = signed_at(script, at + 16);
     Encounter { R, sx, sy, xm, ym }
+}
+
+// The same, then the object number and the time.
+fn conjunction_at(script: &[u8], at: usize) -> Conjunction
+    requires { ⌜ at + 28 ≤ length (now script) ⌝ }
+    ensures { λ r. ⌜ r ≡ conjunction-at (now (script .entry)) at ⌝ }
+{
+    let encounter = encounter_at(script, at);
+    let object = u32_at(script, at + 20);
+    let time = u32_at(script, at + 24);
+    Conjunction {
+        encounter,
+        object,
+        time,
+    }
 }
 
 // A record that ends the script.
@@ -60,6 +76,15 @@ fn take_begin(s: Session, script: &[u8], at: usize) -> Taken
 {
     let E = encounter_at(script, at + 1);
     made(calls::begin(s, E), at + 21)
+}
+
+// A begin with object and time, whose body lies within the script.
+fn take_begin_conjunction(s: Session, script: &[u8], at: usize) -> Taken
+    requires { ⌜ (at + 29 ≤ length (now script)) × Reached s ⌝ }
+    ensures { λ t. ⌜ t ≡ made-of (call (begins-conjunction (conjunction-at (now (script .entry)) (at + 1))) s) (at + 29) ⌝ }
+{
+    let C = conjunction_at(script, at + 1);
+    made(calls::begin_conjunction(s, C), at + 29)
 }
 
 // An add whose body lies within the script.
@@ -101,6 +126,12 @@ pub fn take_record(s: Session, script: &[u8], at: usize) -> Taken
             next,
             session: s,
         };
+    }
+    if kind == 4 {
+        if left < 29 {
+            return stop(2, at, s);
+        }
+        return take_begin_conjunction(s, script, at);
     }
     stop(1, at, s)
 }

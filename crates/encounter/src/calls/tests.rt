@@ -1,10 +1,10 @@
-// Tests 3 to 6, on the inputs of a begin, and test 7, on the upper t.
+// Tests 3 to 6, on the inputs of a begin, test 7, on the upper t, and test 9, on the object number.
 ghost use mathlib.Core.Path.{_≡_};
 ghost use Rattle.exact.specs.Fraction.{whole as wholeNumber, at-most};
 ghost use Rattle.exact.specs.Numbers.{largest-t};
 ghost use Rattle.exact.specs.Scaled.{value};
 ghost use Rattle.exact.specs.Private.Ranges.{tests-3-to-6, InRange};
-ghost use Rattle.exact.specs.Refusals.{outside as is-outside, miss-outside as is-far};
+ghost use Rattle.exact.specs.Refusals.{outside as is-outside, miss-outside as is-far, test-9};
 use crate::arithmetic::scaled::at_most;
 use exact::Encounter;
 use exact::LARGEST_LENGTH;
@@ -68,4 +68,17 @@ pub fn passes_test_7(t: Scaled) -> bool
     ensures { λ r. ⌜ r ≡ at-most (value t) (wholeNumber largest-t) ⌝ }
 {
     at_most(t, Scaled::whole(LARGEST_T))
+}
+
+// Test 9, where `earlier` is the number that the tests before give: the number of the first that refuses, or 0.
+pub fn test_object(earlier: u32, object: u32) -> u32
+    ensures { λ r. ⌜ r ≡ test-9 earlier object ⌝ }
+{
+    if 0 < earlier {
+        return earlier;
+    }
+    if object == 0 {
+        return 9;
+    }
+    0
 }

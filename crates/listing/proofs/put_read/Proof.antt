@@ -30,9 +30,9 @@ put-requires-2 : tie.Need-put-requires-2
 unfolding read-text
 put-requires-2 c κs = omega (arith, parts)
 
-put-ends-in-decimal-requires : tie.Need-put-ends-in-decimal-requires
+put-added-fields-requires : tie.Need-put-added-fields-requires
 unfolding read-text
-put-ends-in-decimal-requires c κs = omega (arith, parts)
+put-added-fields-requires c κs = omega (arith, parts)
 
 same-length : tie.Need-same-length
 same-length c = search needs
@@ -45,7 +45,7 @@ returns c =
     let e = t .before .before .before .before .before in
     let s = e .before .before .before .before in
     let n = s .before .before .before .before .before in
-    joined (joined (joined (joined (n .put-and-word .ensures) (s .put .ensures)) (e .put-ends-and-class .ensures)) (t .put2 .ensures)) (d .put-ends-in-decimal .ensures)
+    joined (joined (joined (joined (n .put-and-word .ensures) (s .put .ensures)) (e .put-ends-and-class .ensures)) (t .put2 .ensures)) (d .put-added-fields .ensures)
 
 pub put-read-spec : {M : Type 1} → statement M
 put-read-spec =
@@ -58,6 +58,6 @@ put-read-spec =
     put-ends-and-class-requires
     slice-aggregate-put-2
     put-requires-2
-    put-ends-in-decimal-requires
+    put-added-fields-requires
     same-length
     returns)

@@ -1,8 +1,8 @@
 use denote.Ref.{now}
 use Prim.Native.Nat.{_+_}
 use native.Mathlib.Omega.{arith}
-use Rattle.exact.specs.Records.{begin, add}
-use Rattle.encounter.proofs.calls.Requests.{no-byte, begin-short, begin-whole, add-short, add-whole, a-read, no-kind, stopped, answered, read-at}
+use Rattle.exact.specs.Records.{begin, begin-conjunction, add}
+use Rattle.encounter.proofs.calls.Requests.{no-byte, begin-short, begin-whole, add-short, add-whole, a-read, conjunction-short, conjunction-whole, no-kind, stopped, answered, read-at}
 use borrow.Author.Needs.{needs}
 use Rattle.encounter.proofs.calls.records.take_record.Statement.{statement}
 use Rattle.encounter.proofs.calls.records.take_record.Tie as tie
@@ -60,7 +60,21 @@ stop-requires-4 : tie.Need-stop-requires-4
 stop-requires-4 c κs = search needs
 
 returns-7 : tie.Need-returns-7
-returns-7 c = let z = c .before .before .before .before .before .before .before in stopped (now (z .args .script)) (z .args .at) (z .args .s) (z .pre) 1 _ (λ e. omega arith) (no-kind _ _ (c .before .before .before .before .before .if1 .left) (c .before .before .before .if2 .left) (c .before .before .if4 .left) (c .before .if6 .left)) (c .stop4 .ensures)
+returns-7 c = let z = c .before .before .before .before .before .before .before .before .before in stopped (now (z .args .script)) (z .args .at) (z .args .s) (z .pre) 2 _ (λ e. omega arith) (conjunction-short _ _ (c .before .before .before .before .before .before .before .if1 .left) (c .before .before .if7 .taken) (c .before .if8 .taken)) (c .stop4 .ensures)
+
+take-begin-conjunction-requires : tie.Need-take-begin-conjunction-requires
+take-begin-conjunction-requires c κs = search needs
+
+returns-8 : tie.Need-returns-8
+returns-8 c =
+    let z = c .before .before .before .before .before .before .before .before .before in
+    answered (now (z .args .script)) (z .args .at) (z .args .s) (z .pre) (begin-conjunction _) (z .args .at + 29) _ (conjunction-whole _ _ (c .before .before .before .before .before .before .before .if1 .left) (c .before .before .if7 .taken) (c .before .if8 .left)) (c .take-begin-conjunction .ensures)
+
+stop-requires-5 : tie.Need-stop-requires-5
+stop-requires-5 c κs = search needs
+
+returns-9 : tie.Need-returns-9
+returns-9 c = let z = c .before .before .before .before .before .before .before .before in stopped (now (z .args .script)) (z .args .at) (z .args .s) (z .pre) 1 _ (λ e. omega arith) (no-kind _ _ (c .before .before .before .before .before .before .if1 .left) (c .before .before .before .before .if2 .left) (c .before .before .before .if4 .left) (c .before .before .if6 .left) (c .before .if7 .left)) (c .stop5 .ensures)
 
 pub take-record-spec : {M : Type 1} → statement M
 take-record-spec =
@@ -82,4 +96,8 @@ take-record-spec =
     add-next
     returns-6
     stop-requires-4
-    returns-7)
+    returns-7
+    take-begin-conjunction-requires
+    returns-8
+    stop-requires-5
+    returns-9)
