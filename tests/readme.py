@@ -48,6 +48,7 @@ def of_c(lines):
         due = [
             f"{records.decimal_text(False, read.lower)} to {records.decimal_text(True, read.upper)}, {class_}",
             f"about {as_float(read.lower):.9g} to {as_float(read.upper):.9g}",
+            "object 27386 at minute 642",
         ]
         main = "\n".join(code).replace(braced(TEST_1), braced(encounter))
         checks.check(braced(encounter) in main, "commands", f"no encounter {encounter} in the lines of C")
@@ -66,7 +67,7 @@ def main():
     prints(command, [str(Decimal(m) * Decimal(5) ** -e * Decimal(10) ** e)])
     _, [command], listing = blocks(section("A script, byte by byte"))
     prints(command, listing)
-    [archive, *compilers, command], due, [header], code = blocks(section("From C and C++"))
+    [archive, *compilers, command], due, [header], code, with_object = blocks(section("From C and C++"))
     checks.check(archive == "rt staticlib jinthuol", "commands", f"the library: {archive}")
     programs = [compiler.split()[-1] for compiler in compilers]
     for program, compiler in zip(programs, compilers):
@@ -74,14 +75,14 @@ def main():
         prints(compiler, [])
         prints(command.replace(programs[0], program), due)
     checks.check(command.endswith(programs[0]) and len(set(programs)) == 2, "commands", f"the programs: {programs}")
-    of_c([header, *code])
+    of_c([header, *code, *with_object])
     [[command]] = blocks(section("From Rust"))
     prints(command, LISTING)
-    [command, interpreter], example = blocks(section("From Python"))
+    [command, interpreter], example, with_object = blocks(section("From Python"))
     prints(command, LISTING)
     checks.check(interpreter == "PYTHONPATH=bindings/python python3", "commands", f"the interpreter: {interpreter}")
     sys.path.insert(0, str(ROOT / "bindings/python"))
-    test = doctest.DocTestParser().get_doctest("\n".join(example) + "\n", {}, "README.md", None, 0)
+    test = doctest.DocTestParser().get_doctest("\n".join(example + with_object) + "\n", {}, "README.md", None, 0)
     runner = doctest.DocTestRunner()
     runner.run(test)
     checks.check(runner.tries > 3 and runner.failures == 0, "commands", "the example in Python")
