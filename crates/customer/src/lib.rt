@@ -87,7 +87,7 @@ fn add_lent(s: Session, count: u16) -> Called
     Called { answer, session: t }
 }
 
-// What a read answers after a begin, one with object and time, and an add.
+// What a read answers after a begin, a second begin with object and time, and an add.
 pub fn bracket(E: Encounter, C: Conjunction, count: u16) -> Answer
     ensures { λ r. ⌜ r ≡ call reads (call (adds count) (call (begins-conjunction C) (call (begins E) empty-session .session) .session) .session) .answer ⌝ }
 {

@@ -1,4 +1,5 @@
--- Document 01, 'Script records': the calls, what each answers and the session after it, told from the history: no encounter, or one and the order N.
+-- Document 01, 'Script records': the calls, what each answers and the session after it, told from the history: no encounter, or one with its object number and
+-- its time, and the order N.
 use mathlib.Core.Bool.{cond, _||_}
 use mathlib.Core.List.{List}
 use Prim.Native.Nat.{ℕ, _+_}

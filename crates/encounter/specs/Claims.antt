@@ -97,3 +97,5 @@ pub record Claims : Type 0 where
       {s : Session} →
       Readable s →
       PrintedEnd false (call reads s .answer .lower) (lower-decimal (call reads s .answer)) × PrintedEnd true (call reads s .answer .upper) (upper-decimal (call reads s .answer))
+  -- request #104: a read that answers no object number, 0, answers no time, 0
+  pub no-object-no-time : {s : Session} → Readable s → call reads s .answer .object ≡ 0 → call reads s .answer .time ≡ 0

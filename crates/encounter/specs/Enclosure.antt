@@ -55,7 +55,7 @@ pub record Claim (p : Place) : Type 0 where
   -- demands 1 and 2: the whole answer and every stored number are those that the history tells
   pub answer : p .answer ≡ outcome (p .history) (p .request) (session-of (p .history)) .answer
   pub session : p .session ≡ session-of (follow (p .history) (p .request))
-  -- demand 3: "for every read accepted in it"
+  -- demand 3: "for every read accepted in it"; request #104: with its object and time
   pub enclosed :
       p .request ≡ read →
       refusal (p .history) read ≡ 0 →
@@ -66,6 +66,6 @@ Every P [] = Unit {0}
 Every P (p ∷ l) = P p × Every P l
 
 -- "For every list of begins, adds and reads on one session from empty, refused ones included". `read` promises it (src/calls.rt); that code makes these very calls is
--- what the other promises of begin, add, read and the record call say
+-- what the other promises of both begins, add, read and the record call say
 unfoldable pub Demands : Type 0
 Demands = (cs : List Call) → Every Claim (places empty no-encounter cs)

@@ -50,7 +50,7 @@ side up E N =
       terms = record { c = s .c; p = s .p; v = s .v; y = s .y; sum = s .sum };
     }
 
--- the session of a conjunction at order N: "After each accepted record all of these are the steps' numbers for the new N."; "The session keeps both"
+-- the session of a conjunction at order N: "After each accepted record all of these are the steps' numbers for the new N."; request #104: "The session keeps both"
 unfoldable pub state : Conjunction → ℕ → Session
 state C N =
     let E = C .encounter in
@@ -66,7 +66,7 @@ state C N =
       d = d E N;
     }
 
--- "After a kind 1 begin both are 0."
+-- request #104: "After a kind 1 begin both are 0."
 abbrev pub no-object : Encounter → Conjunction
 no-object E = record { encounter = E; object = 0; time = 0 }
 
@@ -102,7 +102,7 @@ lower-decimal a = decimal-of false (a .lower)
 unfoldable pub upper-decimal : Answer → Decimal
 upper-decimal a = decimal-of true (a .upper)
 
--- an accepted read: both ends at order N and their class, and "a read answers both", object and time
+-- an accepted read: both ends at order N and their class; request #104: "a read answers both", object and time
 unfoldable pub bracket : Conjunction → ℕ → Answer
 bracket C N =
     let lower = lower-end (C .encounter) N in

@@ -77,13 +77,13 @@ facts {E} h =
     record { bounds = b; t-max = not-above _ _ (passed 6 (refuses-7 E) 0 r .0) }
 
 -- where test 9 passes, so did those before
-pub test-9-passed : (earlier object : ℕ) → test-9 earlier object ≡ 0 → earlier ≡ 0
-unfolding test-9
+pub test-9-passed : (earlier object : ℕ) → test-9 earlier object ≡ 0 → (earlier ≡ 0) × (object ≡ 0 → ⊥)
+unfolding test-9 refuses-9
 test-9-passed earlier object h = go (eqb earlier 0) refl h
   where
-    go : (b : Bool) → eqb earlier 0 ≡ b → cond b (cond (refuses-9 object) 9 0) earlier ≡ 0 → earlier ≡ 0
-    go true e z = eqb-true earlier 0 e
-    go false e z = z
+    go : (b : Bool) → eqb earlier 0 ≡ b → cond b (cond (eqb object 0) 9 0) earlier ≡ 0 → (earlier ≡ 0) × (object ≡ 0 → ⊥)
+    go true e z = (eqb-true earlier 0 e, eqb-false object 0 (passed 8 (eqb object 0) 0 z .0))
+    go false e z = absurd (eqb-false earlier 0 e z)
 
 -- "signed where something is subtracted": where sy is at most sx, g's numerator is the integer sx² − sy²
 pub g-is : (E : Encounter) → E .sy ≤ E .sx → pos (g E .num) ≡ pos (E .sx * E .sx) -ℤ pos (E .sy * E .sy)

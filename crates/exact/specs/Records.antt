@@ -9,12 +9,12 @@ use lib.ListN.{getD}
 use Rattle.exact.specs.declared.Encounter.{Encounter}
 use Rattle.exact.specs.declared.Conjunction.{Conjunction}
 
--- kinds 1, 2 and 3; "Kind 4 joins the accepted kinds in refusal 1."
+-- kinds 1, 2 and 3; request #104: "Kind 4 joins the accepted kinds in refusal 1."
 unfoldable pub is-kind : ℕ → Bool
 is-kind kind = eqb kind 1 || (eqb kind 2 || (eqb kind 3 || eqb kind 4))
 
--- the bytes of a body: "Kind 1, begin: 20 bytes", "Kind 2, add: a 16-bit count of terms", "Kind 3, read: no body"; "A begin of kind 4 has the body of kind 1, then an
--- object number and a time of closest approach, both unsigned 32-bit"
+-- the bytes of a body: "Kind 1, begin: 20 bytes", "Kind 2, add: a 16-bit count of terms", "Kind 3, read: no body"; request #104: "A begin of kind 4 has the body of kind 1,
+-- then an object number and a time of closest approach, both unsigned 32-bit"
 unfoldable pub body-length : ℕ → ℕ
 body-length kind = cond (eqb kind 1) 20 (cond (eqb kind 2) 2 (cond (eqb kind 4) 28 0))
 
@@ -33,7 +33,7 @@ signed n = cond (ltb n 2147483648) (pos n) (negsuc (4294967295 - n))
 abbrev pub begin-at : List ℕ → ℕ → Encounter
 begin-at l i = record { R = u32-at l i; sx = u32-at l (i + 4); sy = u32-at l (i + 8); xm = signed (u32-at l (i + 12)); ym = signed (u32-at l (i + 16)) }
 
--- "the body of kind 1, then an object number and a time of closest approach"
+-- request #104: "the body of kind 1, then an object number and a time of closest approach"
 abbrev pub conjunction-at : List ℕ → ℕ → Conjunction
 conjunction-at l i = record { encounter = begin-at l i; object = u32-at l (i + 20); time = u32-at l (i + 24) }
 

@@ -22,7 +22,7 @@ unfoldable pub refuses-8 : List ℕ → Bool
 refuses-8 script = ltb largest-script (length script)
 
 module _ (script : List ℕ) (position : ℕ) where
-  -- 1: no kind byte, or kind is not 1, 2, 3 or 4
+  -- 1: no kind byte, or kind is not 1, 2, 3 or 4; 4 by request #104
   unfoldable pub refuses-1 : Bool
   refuses-1 = leb (length script) position || not (is-kind (getD script position 0))
 
@@ -63,19 +63,19 @@ module _ (E : Encounter) where
   unfoldable pub refuses-7 : Bool
   refuses-7 = above (value (side-letters true E .t)) (whole largest-t)
 
-  -- the number of the first test that refuses a begin, or 0
+  -- the number of the first of tests 3 to 7 that refuses the encounter, or 0
   unfoldable pub begin-refusal : ℕ
   begin-refusal = cond refuses-3 3 (cond refuses-4 4 (cond refuses-5 5 (cond refuses-6 6 (cond refuses-7 7 0))))
 
--- 9: kind 4: object number is 0
+-- 9: kind 4: object number is 0; by request #104
 unfoldable pub refuses-9 : (object : ℕ) → Bool
 refuses-9 object = eqb object 0
 
--- "9 after test 7": earlier is the number that the tests before give
+-- request #104: "as 9 after test 7"; earlier is the number that the tests before give
 unfoldable pub test-9 : (earlier object : ℕ) → ℕ
 test-9 earlier object = cond (eqb earlier 0) (cond (refuses-9 object) 9 0) earlier
 
--- no test of a begin refuses the encounter
+-- none of tests 3 to 7 refuses the encounter
 pub record Accepted (E : Encounter) : Type 0 where
   pub passes : begin-refusal E ≡ 0
 

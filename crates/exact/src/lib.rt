@@ -29,7 +29,7 @@ pub struct Encounter {
     pub ym: i32,
 }
 
-// An encounter with the object number and the time of closest approach: "both unsigned 32-bit, the time in minutes from the epoch that the site chooses."
+// Request #104: an encounter with an object number and a time of closest approach, "both unsigned 32-bit, the time in minutes from the epoch that the site chooses."
 #[repr(C)]
 pub struct Conjunction {
     pub encounter: Encounter,

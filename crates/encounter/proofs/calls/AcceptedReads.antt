@@ -16,6 +16,7 @@ use Rattle.encounter.proofs.calls.Invariant.{Whole, nothing, at, by-his
 
 pub record ReadOf (s : Session) : Type 0 where
   pub fine : Accepted (s .encounter)
+  pub no-time : s .object ≡ 0 → s .time ≡ 0
   pub low : 1 ≤ s .N
   pub passes : refuses-23 (s .encounter) (s .N) ≡ false
   pub is : call reads s .answer ≡ bracket (conjunction-of s) (s .N)
@@ -23,7 +24,8 @@ pub record ReadOf (s : Session) : Type 0 where
 of-history : {s : Session} {w : History} → Whole s w → refusal w read ≡ 0 → call reads s ≡ outcome w read s → ReadOf s
 of-history nothing z e = unfold refusal in absurd (let f : ⊥ = omega (arith, z) in f)
 of-history (at {C} {N} h l u) z e = unfold state in record {
-  fine = h;
+  fine = h .fine;
+  no-time = h .no-time;
   low = l;
   passes = passed 22 (refuses-23 (C .encounter) N) 0 (unfold refusal in z) .0;
   is = ap (λ (r : Called). r .answer) e ∙ unfold outcome in rw z;
@@ -31,3 +33,7 @@ of-history (at {C} {N} h l u) z e = unfold state in record {
 
 pub read-of : {s : Session} → Readable s → ReadOf s
 read-of {s} r = let (w, h) = whole (r .reached) in of-history h (sym (number w read s) ∙ rw (by-history h reads) at (r .accepted)) (by-history h reads)
+
+pub no-object-no-time : {s : Session} → Readable s → call reads s .answer .object ≡ 0 → call reads s .answer .time ≡ 0
+unfolding bracket
+no-object-no-time r = let f = read-of r in rw (f .is) (f .no-time)

@@ -8,6 +8,7 @@ use Rattle.exact.proofs.Order.{half-exact, double-exact}
 use Rattle.exact.proofs.Unrounded.{letters-are, term-is, sum-is, powers-are, bound-is}
 use Rattle.encounter.specs.Claims.{Claims, Unrounded}
 use Rattle.encounter.proofs.calls.Stars.{stars-hold, mirror-begin, mirror-begin-conjunction, mirror-add, mirror-read}
+use Rattle.encounter.proofs.calls.AcceptedReads.{no-object-no-time}
 use Rattle.encounter.proofs.calls.Classes.{classes, no-reversal, never-falls, alert-remains}
 use Rattle.encounter.proofs.calls.PrintedEnds.{decimals}
 
@@ -39,4 +40,5 @@ claims = record {
   lower-end-never-falls = never-falls;
   alert-remains = alert-remains;
   decimals = decimals;
+  no-object-no-time = no-object-no-time;
 }

@@ -17,18 +17,18 @@ use Rattle.encounter.proofs.calls.Answering.{refused-is, taken-is, numb
 -- ---- test 9
 
 module _ (earlier object : ℕ) where
-  pub refused-earlier : 0 < earlier → earlier ≡ test-9 earlier object
+  pub refused-earlier : (earlier ≡ 0 → ⊥) → earlier ≡ test-9 earlier object
   unfolding test-9
-  refused-earlier h = rw (ne-eqb earlier 0 (λ z. omega arith))
+  refused-earlier some = rw (ne-eqb earlier 0 some)
 
-  module _ (h : earlier ≤ 0) where
+  module _ (z : earlier ≡ 0) where
     pub refused-9 : object ≡ 0 → 9 ≡ test-9 earlier object
     unfolding test-9 refuses-9
-    refused-9 z = rw (eq-eqb earlier 0 (omega arith), eq-eqb object 0 z)
+    refused-9 e = rw (eq-eqb earlier 0 z, eq-eqb object 0 e)
 
-    pub passed-9 : (object ≡ 0 → ⊥) → 0 ≡ test-9 earlier object
+    pub passed-9 : (object ≡ 0 → ⊥) → earlier ≡ test-9 earlier object
     unfolding test-9 refuses-9
-    passed-9 some = rw (eq-eqb earlier 0 (omega arith), ne-eqb object 0 some)
+    passed-9 some = z ∙ rw (eq-eqb earlier 0 z, ne-eqb object 0 some)
 
 -- ---- the call
 
@@ -47,7 +47,7 @@ module _ (C : Conjunction) (s : Session) {r : Called} (f : r ≡ call (begins (C
 
     begun-is : r ≡ record { answer = counted 1; session = state (no-object (C .encounter)) 1 }
     unfolding outcome refusal
-    begun-is = let p : begin-refusal (C .encounter) ≡ 0 = test-9-passed _ (C .object) accepted in f ∙ rw p
+    begun-is = let p : begin-refusal (C .encounter) ≡ 0 = test-9-passed _ (C .object) accepted .0 in f ∙ rw p
 
     -- the encounter's session, with object and time put in
     abbrev with-object : Session → Session

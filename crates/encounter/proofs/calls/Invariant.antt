@@ -23,10 +23,15 @@ use Rattle.encounter.specs.Calls.{history-after, follow, session-of, his
 use Rattle.encounter.specs.Enclosure.{Claim, Every, places, Encloses, Named, Demands}
 use Rattle.encounter.proofs.calls.Answering.{number}
 
+-- what an accepted begin says of its conjunction
+pub record Begins (C : Conjunction) : Type 0 where
+  pub fine : Accepted (C .encounter)
+  pub no-time : C .object ≡ 0 → C .time ≡ 0
+
 -- the session s, where the requests so far tell w
 pub data Whole : Session → History → Type 0 where
   nothing : Whole empty no-encounter
-  at : {C : Conjunction} {N : ℕ} → Accepted (C .encounter) → 1 ≤ N → N ≤ largest-order → Whole (state C N) (encounter-at C N)
+  at : {C : Conjunction} {N : ℕ} → Begins C → 1 ≤ N → N ≤ largest-order → Whole (state C N) (encounter-at C N)
 
 pub session-is : {s : Session} {w : History} → Whole s w → s ≡ session-of w
 session-is nothing = refl
@@ -40,8 +45,10 @@ history-is (at {C} {N} h l u) = rw (ne-eqb N 0 (λ z. omega arith))
 -- the session after an accepted request
 taken-whole : {s : Session} {w : History} → Whole s w → (q : Request) → refusal w q ≡ 0 → Whole (session-of (history-after w q)) (history-after w q)
 unfolding refusal refuses-22
-taken-whole h (begin E) z = at {N = 1} (record { passes = z }) (omega arith) (omega arith)
-taken-whole h (begin-conjunction C) z = at {N = 1} (record { passes = test-9-passed _ (C .object) z }) (omega arith) (omega arith)
+taken-whole h (begin E) z = at {N = 1} (record { fine = record { passes = z }; no-time = λ e. refl }) (omega arith) (omega arith)
+taken-whole h (begin-conjunction C) z =
+    let (p, some) = test-9-passed _ (C .object) z in
+    at {N = 1} (record { fine = record { passes = p }; no-time = λ e. absurd (some e) }) (omega arith) (omega arith)
 taken-whole nothing (add count) z = nothing
 taken-whole (at {C} {N} h l u) (add count) z = at {N = N + count} h (omega arith) (ltb-false largest-order (N + count) (passed 21 (refuses-22 N count) 0 z .0))
 taken-whole nothing read z = nothing
@@ -81,8 +88,8 @@ enclosing (at {C} {N} h l u) z = unfold outcome refusal bracket in rw z (
     order-is = refl;
     lower-is = refl;
     upper-is = refl;
-    between = enclosed h N l (passed 22 (refuses-23 (C .encounter) N) 0 z .0);
-    close = ends-close h N l;
+    between = enclosed (h .fine) N l (passed 22 (refuses-23 (C .encounter) N) 0 z .0);
+    close = ends-close (h .fine) N l;
   },
   record { object-is = refl; time-is = refl },
 )
@@ -121,7 +128,7 @@ whole (after r c) = let (w, h) = whole r in (_, keeps h c)
 begun-whole : {s : Session} {w : History} → Whole s w → (s .N ≡ 0 → ⊥) → Begun s
 unfolding state
 begun-whole nothing z = absurd (z refl)
-begun-whole (at h l u) z = record { fine = h; low = l; high = u; is = refl }
+begun-whole (at h l u) z = record { fine = h .fine; low = l; high = u; is = refl }
 
 pub begun : (s : Session) → Reached s → (s .N ≡ 0 → ⊥) → Begun s
 begun s r z = begun-whole (whole r .1) z

@@ -55,33 +55,46 @@ module _ (l : List ℕ) (i : ℕ) where
   no-byte h = (rw (le-leb (length l) i h), rw (le-leb (length l) i h))
 
   module _ (h : i < length l) where
+    -- a record of a known kind, by the length of its body
+    module _ (kind : ℕ) (known : is-kind kind ≡ true) (k : getD l i 0 ≡ kind) where
+      short : length l < i + 1 + body-length kind → At l i (bad 2) i
+      unfolding request-at next-at refuses-1 refuses-2
+      short m = let e = lt-ltb (length l) (i + 1 + body-length kind) m in (rw (lt-leb (length l) i h, k, known, e), rw (lt-leb (length l) i h, k, known, e))
+
+      whole : (j : ℕ) → i + 1 + body-length kind ≡ j → j ≤ length l → At l i (request-of kind l (i + 1)) j
+      unfolding request-at next-at refuses-1 refuses-2
+      whole j n m =
+          let e = le-ltb (length l) (i + 1 + body-length kind) (omega arith) in
+          let f : next-at l i ≡ i + 1 + body-length kind = rw (lt-leb (length l) i h, k, known, e) in
+          (rw (lt-leb (length l) i h, k, known, e), f ∙ n)
+
     pub begin-short : getD l i 0 ≡ 1 → length l - i < 21 → At l i (bad 2) i
-    unfolding request-at next-at refuses-1 refuses-2 is-kind body-length
-    begin-short k m = let e = lt-ltb (length l) (i + 1 + 20) (omega arith) in (rw (lt-leb (length l) i h, k, e), rw (lt-leb (length l) i h, k, e))
+    unfolding is-kind body-length
+    begin-short k m = short 1 refl k (omega arith)
 
     pub begin-whole : getD l i 0 ≡ 1 → 21 ≤ length l - i → At l i (begin (begin-at l (i + 1))) (i + 21)
-    unfolding request-at next-at request-of refuses-1 refuses-2 is-kind body-length
-    begin-whole k m = let e = le-ltb (length l) (i + 1 + 20) (omega arith) in (rw (lt-leb (length l) i h, k, e), let n : next-at l i ≡ i + 1 + 20 = rw (lt-leb (length l) i h, k, e) in n ∙ omega arith)
+    unfolding is-kind body-length request-of
+    begin-whole k m = whole 1 refl k (i + 21) (omega arith) (omega arith)
 
     pub add-short : getD l i 0 ≡ 2 → length l - i < 3 → At l i (bad 2) i
-    unfolding request-at next-at refuses-1 refuses-2 is-kind body-length
-    add-short k m = let e = lt-ltb (length l) (i + 1 + 2) (omega arith) in (rw (lt-leb (length l) i h, k, e), rw (lt-leb (length l) i h, k, e))
+    unfolding is-kind body-length
+    add-short k m = short 2 refl k (omega arith)
 
     pub add-whole : getD l i 0 ≡ 2 → 3 ≤ length l - i → At l i (add (u16-at l (i + 1))) (i + 3)
-    unfolding request-at next-at request-of refuses-1 refuses-2 is-kind body-length
-    add-whole k m = let e = le-ltb (length l) (i + 1 + 2) (omega arith) in (rw (lt-leb (length l) i h, k, e), let n : next-at l i ≡ i + 1 + 2 = rw (lt-leb (length l) i h, k, e) in n ∙ omega arith)
+    unfolding is-kind body-length request-of
+    add-whole k m = whole 2 refl k (i + 3) (omega arith) (omega arith)
 
     pub a-read : getD l i 0 ≡ 3 → At l i read (i + 1)
-    unfolding request-at next-at request-of refuses-1 refuses-2 is-kind body-length
-    a-read k = let e = le-ltb (length l) (i + 1 + 0) (omega arith) in (rw (lt-leb (length l) i h, k, e), let n : next-at l i ≡ i + 1 + 0 = rw (lt-leb (length l) i h, k, e) in n ∙ omega arith)
+    unfolding is-kind body-length request-of
+    a-read k = whole 3 refl k (i + 1) (omega arith) (omega arith)
 
     pub conjunction-short : getD l i 0 ≡ 4 → length l - i < 29 → At l i (bad 2) i
-    unfolding request-at next-at refuses-1 refuses-2 is-kind body-length
-    conjunction-short k m = let e = lt-ltb (length l) (i + 1 + 28) (omega arith) in (rw (lt-leb (length l) i h, k, e), rw (lt-leb (length l) i h, k, e))
+    unfolding is-kind body-length
+    conjunction-short k m = short 4 refl k (omega arith)
 
     pub conjunction-whole : getD l i 0 ≡ 4 → 29 ≤ length l - i → At l i (begin-conjunction (conjunction-at l (i + 1))) (i + 29)
-    unfolding request-at next-at request-of refuses-1 refuses-2 is-kind body-length
-    conjunction-whole k m = let e = le-ltb (length l) (i + 1 + 28) (omega arith) in (rw (lt-leb (length l) i h, k, e), let n : next-at l i ≡ i + 1 + 28 = rw (lt-leb (length l) i h, k, e) in n ∙ omega arith)
+    unfolding is-kind body-length request-of
+    conjunction-whole k m = whole 4 refl k (i + 29) (omega arith) (omega arith)
 
     pub no-kind : (getD l i 0 ≡ 1 → ⊥) → (getD l i 0 ≡ 2 → ⊥) → (getD l i 0 ≡ 3 → ⊥) → (getD l i 0 ≡ 4 → ⊥) → At l i (bad 1) i
     unfolding request-at next-at refuses-1 is-kind

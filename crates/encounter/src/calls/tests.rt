@@ -74,11 +74,10 @@ pub fn passes_test_7(t: Scaled) -> bool
 pub fn test_object(earlier: u32, object: u32) -> u32
     ensures { λ r. ⌜ r ≡ test-9 earlier object ⌝ }
 {
-    if 0 < earlier {
-        return earlier;
+    if earlier == 0 {
+        if object == 0 {
+            return 9;
+        }
     }
-    if object == 0 {
-        return 9;
-    }
-    0
+    earlier
 }
