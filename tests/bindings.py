@@ -296,7 +296,7 @@ def of_another_version():
     output(["gcc", "-c", folder / "own.c", "-o", folder / "own.o"])
     output(["ar", "rc", folder / "libjinthuol.a", folder / "own.o"])
     environment = {**os.environ, "JINTHUOL_LIB_DIR": str(folder), "CARGO_TARGET_DIR": str(folder / "rust")}
-    tests = [["test", "--test", "calls", name] for name in ("brackets", "decimals", "objects")]
+    tests = [["test", "--test", "calls", name] for name in ("brackets", "decimals")]
     for command in ["run", "--example", "screen", EXAMPLES[0]], *tests:
         command = ["cargo", command[0], "--offline", "--locked", *map(str, command[1:])]
         ended = subprocess.run(command, cwd=BINDINGS / "rust", env=environment, capture_output=True, timeout=LONGEST_RUN)

@@ -321,7 +321,6 @@ def of_objects():
     yield "kind 1 after kind 4", begun + BEGIN_HALF + add(2) + READ, again
     script = begun + begin_conjunction(*HALF, 1440, 25544) + add(2) + READ
     yield "kind 4 after kind 4", script, f"{lines}33 begun 1\n62 added 3\n65 {read} 1440 25544\n"
-    yield "no kind 5", begun + b"\x05" + BEGIN_OBJECT[1:], f"{lines}33 refused 1\n"
 
 
 def scripts():

@@ -1,5 +1,5 @@
-/* Lends a session with words behind it to both begins and to add, and exits with 1 where one of these words was written: so the header's session is as large as
- * the library's, or larger. That it is not larger: tests/texts.py holds its words to those of fields.py, which tests/bindings.py compares with the library's.
+/* Lends a session with words behind it to both begins and to add, and exits with 1 where one of these words was written, or where a read answers another object
+ * number or time than those of the last begin that was accepted. So the header's session is as large as the library's, or larger. That it is not larger: tests/texts.py holds its words to those of fields.py, which tests/bindings.py compares with the library's.
  * A session, a conjunction or an answer of the header that has padding does not compile here. */
 #include <string.h>
 
@@ -10,6 +10,12 @@ typedef char conjunction_has_7_words[sizeof(jinthuol_conjunction) == 28 ? 1 : -1
 typedef char answer_has_9_words[sizeof(jinthuol_answer) == 36 ? 1 : -1];
 
 static const uint32_t behind[64] = {0x5a5a5a5a, 1, 0xffffffff, 2, 0, 3, 0x80000000, 4};
+
+static int answers(jinthuol_session session, uint32_t object, uint32_t time)
+{
+    jinthuol_answer answer = jinthuol_read(session);
+    return answer.N == 55 && answer.object == object && answer.time == time;
+}
 
 int main(void)
 {
@@ -22,10 +28,15 @@ int main(void)
 
     memcpy(lent.guard, behind, sizeof behind);
     lent.session = jinthuol_empty();
-    if (jinthuol_begin(&lent.session, encounter).N != 1 || jinthuol_add(&lent.session, 54).N != 55) {
+    if (jinthuol_begin_conjunction(&lent.session, conjunction).N != 1 || jinthuol_add(&lent.session, 54).N != 55 || !answers(lent.session, 25544, 1440)) {
         return 1;
     }
-    if (jinthuol_begin_conjunction(&lent.session, conjunction).N != 1 || jinthuol_add(&lent.session, 54).N != 55) {
+    conjunction.object = 0;
+    conjunction.time = 7;
+    if (jinthuol_begin_conjunction(&lent.session, conjunction).refusal != 9 || !answers(lent.session, 25544, 1440)) {
+        return 1;
+    }
+    if (jinthuol_begin(&lent.session, encounter).N != 1 || jinthuol_add(&lent.session, 54).N != 55 || !answers(lent.session, 0, 0)) {
         return 1;
     }
     return memcmp(lent.guard, behind, sizeof behind) != 0;

@@ -8,6 +8,7 @@ After `rt check screen` and `rt staticlib jinthuol`. What is built goes to targe
 
 import decimal
 import doctest
+import re
 import subprocess
 import sys
 from decimal import Decimal
@@ -69,11 +70,14 @@ def main():
     prints(command, listing)
     [archive, *compilers, command], due, [header], code, with_object = blocks(section("From C and C++"))
     checks.check(archive == "rt staticlib jinthuol", "commands", f"the library: {archive}")
+    [command_with_object] = re.findall(r"`(echo .+? \| target/example)`", section("From C and C++"))
     programs = [compiler.split()[-1] for compiler in compilers]
     for program, compiler in zip(programs, compilers):
         (ROOT / program).unlink(missing_ok=True)
         prints(compiler, [])
         prints(command.replace(programs[0], program), due)
+        due_with_object = [line.replace(" 0 0 ", " 27386 642 ") for line in due]
+        prints(command_with_object.replace(programs[0], program), due_with_object)
     checks.check(command.endswith(programs[0]) and len(set(programs)) == 2, "commands", f"the programs: {programs}")
     of_c([header, *code, *with_object])
     [[command]] = blocks(section("From Rust"))

@@ -189,13 +189,13 @@ def of_readme():
     script = (EXAMPLES / "test-1.script").read_bytes()
     same("README", "the listing", blocks(section("First command"))[1], test_1)
     line = blocks(section("A line of a listing"))[0]
-    listed_lines = [line for path in EXAMPLES.glob("*.listing") for line in path.read_text().splitlines()]
-    checks.check(len(line) == 1 and line[0] in listed_lines, "README", f"the line: {line}")
-    answer = records.printed(line[0])
-    due = [f"{m} {e}" for m, e in (answer.lower, answer.upper)]
-    due += [records.decimal_text(False, answer.lower), records.decimal_text(True, answer.upper)]
-    for part in line[0].split()[0], answer.N, answer.class_name, *due, answer.object, answer.time:
-        checks.check(f"| `{part}` |" in README, "README", f"the field {part}")
+    checks.check(len(line) == 1 and line[0] in test_1, "README", f"the line: {line}")
+    fields = re.findall(r"^\| [^|]+ \| `([^`]+)` \| [^|]+ \|$", section("A line of a listing").split("Aloud")[0], re.M)
+    same("README", "the fields of the line", fields and " ".join(fields), line[0])
+    shift = (EXAMPLES / "shift.listing").read_text()
+    for end in re.findall(r"`\.\. (.+?)`, which is object (\d+) at minute (\d+)", section("A line of a listing")) or [[]]:
+        ok = len(end) == 3 and end[0].endswith(" ".join(end[1:])) and f" {end[0]}\n" in shift
+        checks.check(ok, "README", f"the end of a line with an object: {end}")
     kinds = re.findall(r"^\| (\d) \| [^|]+ \| (\d+) \|", section("A script, byte by byte"), re.M)
     due = [(str(kind), str(1 + of.body.size)) for kind, of in records.KINDS.items()]
     same("README", "the kinds and their bytes", kinds, due)
@@ -204,6 +204,10 @@ def of_readme():
     checks.check(f"`{script[1:5].hex(' ')}` | R = 244 + 1 × 256 = 500" in README, "README", "the bytes of R")
     for bytes_, what in (((-388) % (1 << 32)).to_bytes(4, "little"), "-388"), (records.add(54), "add 54"):
         checks.check(f"`{bytes_.hex(' ')}`" in README, "README", f"the bytes of {what}")
+    words = [number.to_bytes(4, "little") for number in (27386, 642)]
+    low, high = ([f"{word[0]} + {word[1]} × 256" for word in words])
+    text = f"`{words[0].hex(' ')}  {words[1].hex(' ')}`, the first record begins the same encounter for object 27386 ({low}) at minute 642 ({high})"
+    checks.check(text in README, "README", text)
     # Decimals of the reads that its text speaks of, outward.
     listings = {stem: (EXAMPLES / f"{stem}.listing").read_text() for stem in ("test-1", "alfano-3")}
     for stem, N, digits, text in (

@@ -4,9 +4,11 @@
  *     jinthuol_encounter test_1 = {500, 5000, 100, 1000, 0};    R, sx, sy, xm, ym
  *     jinthuol_begin(&session, test_1);                         N is 1
  *     jinthuol_add(&session, 54);                               N is 55
- *     jinthuol_answer answer = jinthuol_read(session);          both ends, and the class
+ *     jinthuol_answer answer = jinthuol_read(session);          both ends, the class, and object and time: 0 here
  *     jinthuol_to_decimal(false, answer.lower)                  7647 and 2: at least 7.647e-02
  *     jinthuol_to_decimal(true, answer.upper)                   7648 and 2: at most 7.648e-02
+ *     jinthuol_conjunction conjunction = {test_1, 25544, 1440}; object 25544, at minute 1440
+ *     jinthuol_begin_conjunction(&session, conjunction);        N is 1; reads answer 25544 and 1440
  *
  * The functions are those of libjinthuol.a; `rt staticlib jinthuol` writes it to target/staticlib. example.c beside this file prints their answers.
  * README.md has the inputs in plain words, docs/TRUST.md what is proved of the functions and what is not.
@@ -26,8 +28,8 @@
  *     22  add: N + count above 4,096                       (add)
  *     23  read: 2M above N + 2                             (read)
  *
- * 7 in plain words: (xm/sx)^2 + (ym/sy)^2 + (R/sy)^2, which is 2t, is above 128; t is rounded up first. 23: too few terms are added for the bound of
- * those left out; a read needs N of at least 2M - 2. README.md has examples. 9: `kind 4` is the record of a script that asks for begin_conjunction.
+ * 7 in plain words: (xm/sx)^2 + (ym/sy)^2 + (R/sy)^2, which is 2t, is above 128; t is rounded up first. 9: `kind 4` is the record of a script that asks
+ * for begin_conjunction. 23: too few terms are added for the bound of those left out; a read needs N of at least 2M - 2. README.md has examples.
  *
  * What a caller sees to. No pointer may be null, also where its length is 0. C converts a number to the type of its parameter or field without a word:
  * test first that it fits.
@@ -118,10 +120,7 @@ jinthuol_session jinthuol_empty(void);
 jinthuol_answer jinthuol_begin(jinthuol_session *session, jinthuol_encounter encounter);
 
 /* Begins an encounter of an object at order N = 1: reads answer the object number and the time too, until the next begin that is accepted. Refused as 3 to 7,
- * or as 9 where the object number is 0, and then the session is as it was, with the earlier object number and time. Any time is accepted.
- *
- *     jinthuol_conjunction conjunction = {{500, 5000, 100, 1000, 0}, 25544, 1440};
- *     jinthuol_begin_conjunction(&session, conjunction); */
+ * or as 9 where the object number is 0, and then the session is as it was, with the earlier object number and time. Any time is accepted. */
 jinthuol_answer jinthuol_begin_conjunction(jinthuol_session *session, jinthuol_conjunction conjunction);
 
 /* Adds count terms. Refused as 21 or 22, and then the session is as it was. */
