@@ -1,6 +1,7 @@
-/* Lends a session with words behind it to both begins and to add, and exits with 1 where one of these words was written, or where a read answers another object
- * number or time than those of the last begin that was accepted. So the header's session is as large as the library's, or larger. That it is not larger: tests/texts.py holds its words to those of fields.py, which tests/bindings.py compares with the library's.
- * A session, a conjunction or an answer of the header that has padding does not compile here. */
+/* Lends a session with words behind it to both begins and to add, and exits with 1 where one of these words was written: so the header's session is as large as
+ * the library's, or larger. That it is not larger: tests/texts.py holds its words to those of fields.py, which tests/bindings.py compares with the library's.
+ * Also where a read answers another object number or time than those of the last begin that was accepted. A session, a conjunction or an answer of the header that
+ * has padding does not compile here. */
 #include <string.h>
 
 #include "jinthuol.h"

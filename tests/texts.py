@@ -204,10 +204,11 @@ def of_readme():
     checks.check(f"`{script[1:5].hex(' ')}` | R = 244 + 1 × 256 = 500" in README, "README", "the bytes of R")
     for bytes_, what in (((-388) % (1 << 32)).to_bytes(4, "little"), "-388"), (records.add(54), "add 54"):
         checks.check(f"`{bytes_.hex(' ')}`" in README, "README", f"the bytes of {what}")
-    words = [number.to_bytes(4, "little") for number in (27386, 642)]
-    low, high = ([f"{word[0]} + {word[1]} × 256" for word in words])
-    text = f"`{words[0].hex(' ')}  {words[1].hex(' ')}`, the first record begins the same encounter for object 27386 ({low}) at minute 642 ({high})"
-    checks.check(text in README, "README", text)
+    for number, of_number in (27386, "object"), (642, "minute"):
+        word = number.to_bytes(4, "little")
+        checks.check(word.hex(" ") in README, "README", f"the bytes of {number}")
+        text = f"{of_number} {number} ({word[0]} + {word[1]} × 256)"
+        checks.check(text in README, "README", text)
     # Decimals of the reads that its text speaks of, outward.
     listings = {stem: (EXAMPLES / f"{stem}.listing").read_text() for stem in ("test-1", "alfano-3")}
     for stem, N, digits, text in (
