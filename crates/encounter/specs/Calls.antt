@@ -18,7 +18,8 @@ use Rattle.encounter.specs.Session.{empty, state, no-object, conjunction
 -- ---- the history
 
 -- after an accepted request: "The encounter of an accepted read is that of the last begin accepted before it. From that begin on, the order N is 1 plus the
--- terms that the accepted calls have added so far; an add adds its count." (An add with no encounter is refused as 21.)
+-- terms that the accepted calls have added so far; an add adds its count." (An add with no encounter is refused as 21.) A begin of kind 4, of request #104, is a
+-- begin too.
 abbrev pub history-after : History → Request → History
 history-after w (begin E) = encounter-at (no-object E) 1
 history-after w (begin-conjunction C) = encounter-at C 1
@@ -71,8 +72,8 @@ outcome w q s =
 
 -- ---- the calls
 
--- the calls of the library: a record is given by the script's bytes and a position. Counts, bytes and positions are any whole numbers, so every caller's are among
--- them
+-- the calls of the library: a record is given by the script's bytes and a position. Object numbers, times, counts, bytes and positions are any whole numbers, so every
+-- caller's are among them
 pub data Call : Type 0 where
   begins : Encounter → Call
   begins-conjunction : Conjunction → Call

@@ -3,7 +3,7 @@ use mathlib.Core.Path.{_≡_, refl, sym, _∙_, subst, ap}
 use mathlib.Core.Bool.{Bool, true, false, cond}
 use Prim.Native.Nat.{ℕ, suc, pred, _+_, _≤_, _<_}
 use native.Mathlib.Omega.{arith}
-use borrow.Author.Tests.{lt-ltb, le-ltb, eq-eqb, ne-eqb, eqb-true, ltb-true, ltb-false}
+use borrow.Author.Tests.{lt-ltb, le-ltb, eq-eqb, ne-eqb, eqb-true, eqb-false, ltb-true, ltb-false}
 use lib.Dec.{ltb, eqb, T}
 use lib.IntN.{ℤ, pos, negsuc}
 use lib.Signed.{ltZ}
@@ -20,7 +20,7 @@ use Rattle.encounter.specs.declared.state.Answer.{Answer}
 use Rattle.encounter.specs.declared.state.Class.{Class}
 use Rattle.encounter.specs.declared.state.Called.{Called}
 use Rattle.encounter.specs.Session.{state, no-object, conjunction-of, refused, counted, bracket, class-of}
-use Rattle.encounter.specs.Calls.{history-after, session-of, history-of, accepted-answer, refusing, outcome, Call, begins, adds, reads, call, Reached, after}
+use Rattle.encounter.specs.Calls.{history-after, follow, session-of, history-of, accepted-answer, refusing, outcome, Call, begins, adds, reads, call, Reached, after}
 
 -- ---- the tests of a begin
 
@@ -88,7 +88,7 @@ module _ (s : Session) (q : Request) where
   unfolding outcome
   taken-is e f g = rw (f, g, e)
 
--- the number that is answered
+-- the number that an accepted request is answered
 accepted-number : (q : Request) (w : History) → refusal w q ≡ 0 → accepted-answer q (history-after w q) .refusal ≡ refusal w q
 unfolding refusal bracket
 accepted-number (begin E) w z = sym z
@@ -99,16 +99,25 @@ accepted-number read no-encounter z = refl
 accepted-number read (encounter-at C N) z = sym z
 accepted-number (bad r) w z = refl
 
-pub number : (w : History) (q : Request) (s : Session) → outcome w q s .answer .refusal ≡ refusal w q
-unfolding outcome
-number w q s = go (eqb (refusal w q) 0) refl
-  where
-    done : Called
-    done = record { answer = accepted-answer q (history-after w q); session = session-of (history-after w q) }
+-- what holds of an accepted request, with the history after it, and of a refused one, with the history as it was, holds of the request
+module _ (w : History) (q : Request) (s : Session) where
+  abbrev done : Called
+  done = record { answer = accepted-answer q (history-after w q); session = session-of (history-after w q) }
 
-    go : (b : Bool) → eqb (refusal w q) 0 ≡ b → cond b done (refusing (refusal w q) s) .answer .refusal ≡ refusal w q
-    go true e = accepted-number q w (eqb-true (refusal w q) 0 e)
-    go false e = refl
+  pub by-cases :
+      (P : Called → History → Type 0) →
+      (refusal w q ≡ 0 → P done (history-after w q)) →
+      ((refusal w q ≡ 0 → ⊥) → P (refusing (refusal w q) s) w) →
+      P (outcome w q s) (follow w q)
+  unfolding outcome
+  by-cases P taken left = go (eqb (refusal w q) 0) refl
+    where
+      go : (b : Bool) → eqb (refusal w q) 0 ≡ b → P (cond b done (refusing (refusal w q) s)) (cond b (history-after w q) w)
+      go true e = taken (eqb-true (refusal w q) 0 e)
+      go false e = left (eqb-false (refusal w q) 0 e)
+
+  pub number : outcome w q s .answer .refusal ≡ refusal w q
+  number = by-cases (λ r _. r .answer .refusal ≡ refusal w q) (accepted-number q w) (λ _. refl)
 
 -- the history that the fields tell
 pub history-none : (s : Session) → s .N ≡ 0 → history-of s ≡ no-encounter

@@ -1,13 +1,11 @@
 -- Along every list of calls the session is empty, or it is the steps' state of the encounter and the order that the requests tell. From that, the demands.
 use mathlib.Core.Path.{_≡_, refl, sym, ap}
-use mathlib.Core.Bool.{Bool, true, false, cond}
 use mathlib.Core.List.{List, [], _∷_}
 use Prim.Native.Nat.{ℕ, suc, _+_, _≤_}
 use mathlib.Core.Logic.{⊎-elim}
 use native.Mathlib.Nat.{eq-zero-or-pos, add-zero}
 use native.Mathlib.Omega.{arith}
-use borrow.Author.Tests.{ltb-false, le-ltb, eqb-true, ne-eqb}
-use lib.Dec.{eqb}
+use borrow.Author.Tests.{ltb-false, le-ltb, ne-eqb}
 use Rattle.exact.specs.declared.Conjunction.{Conjunction}
 use Rattle.exact.specs.Numbers.{largest-order}
 use Rattle.exact.specs.Records.{Request, begin, begin-conjunction, add, read, bad}
@@ -19,9 +17,9 @@ use Rattle.encounter.specs.declared.state.Session.{Session}
 use Rattle.encounter.specs.declared.state.Called.{Called}
 use Rattle.encounter.specs.Session.{empty, state, counted, bracket}
 use Rattle.encounter.specs.Private.Held.{Begun}
-use Rattle.encounter.specs.Calls.{history-after, follow, session-of, history-of, accepted-answer, refusing, outcome, Call, adds, asked, call, Reached, from-empty, after}
+use Rattle.encounter.specs.Calls.{history-after, follow, session-of, history-of, outcome, Call, adds, asked, call, Reached, from-empty, after}
 use Rattle.encounter.specs.Enclosure.{Claim, Every, places, Encloses, Named, Demands}
-use Rattle.encounter.proofs.calls.Answering.{number}
+use Rattle.encounter.proofs.calls.Answering.{by-cases, number}
 
 -- what an accepted begin says of its conjunction
 pub record Begins (C : Conjunction) : Type 0 where
@@ -56,19 +54,9 @@ taken-whole (at h l u) read z = at h l u
 taken-whole nothing (bad r) z = nothing
 taken-whole (at h l u) (bad r) z = at h l u
 
-module _ {s : Session} {w : History} (h : Whole s w) (q : Request) where
-  -- what an accepted request is answered
-  done : Called
-  done = record { answer = accepted-answer q (history-after w q); session = session-of (history-after w q) }
-
-  -- the session after any request
-  kept : Whole (outcome w q s .session) (follow w q)
-  unfolding outcome done
-  kept = go (eqb (refusal w q) 0) refl
-    where
-      go : (b : Bool) → eqb (refusal w q) 0 ≡ b → Whole (cond b done (refusing (refusal w q) s) .session) (cond b (history-after w q) w)
-      go true e = taken-whole h q (eqb-true (refusal w q) 0 e)
-      go false e = h
+-- the session after any request
+kept : {s : Session} {w : History} → Whole s w → (q : Request) → Whole (outcome w q s .session) (follow w q)
+kept {s} {w} h q = by-cases w q s (λ r v. Whole (r .session) v) (taken-whole h q) (λ _. h)
 
 -- an accepted read
 Read : History → Called → Type 0

@@ -1,13 +1,12 @@
 -- The record at a position by cases, as code takes them.
 use mathlib.Core.Path.{_≡_, refl, sym, _∙_, ap, subst}
-use mathlib.Core.Bool.{Bool, true, false, cond}
+use mathlib.Core.Bool.{true}
 use mathlib.Core.List.{List}
 use Prim.Native.Nat.{ℕ, zero, suc, _+_, _-_, _≤_, _<_}
 use native.Mathlib.Omega.{arith}
 use native.Mathlib.Nat.{zero-add}
 use borrow.Author.Tests.{lt-ltb, le-ltb, le-leb, lt-leb, ne-eqb}
 use borrow.Author.Needs.{sfits-of}
-use lib.Dec.{eqb}
 use lib.ListN.{length, getD}
 use lib.IntN.{pos, negsuc, _-ℤ_}
 use mir.Syntax.{w32}
@@ -20,8 +19,8 @@ use Rattle.encounter.specs.declared.state.Answer.{Answer}
 use Rattle.encounter.specs.declared.state.Called.{Called}
 use Rattle.encounter.specs.declared.state.Taken.{Taken}
 use Rattle.encounter.specs.Session.{refused}
-use Rattle.encounter.specs.Calls.{session-of, history-of, accepted-answer, refusing, outcome, reads, takes, call, next-at, record-call, Reached, after}
-use Rattle.encounter.proofs.calls.Answering.{refused-is}
+use Rattle.encounter.specs.Calls.{history-of, outcome, reads, takes, call, next-at, record-call, Reached, after}
+use Rattle.encounter.proofs.calls.Answering.{refused-is, by-cases}
 use Rattle.encounter.proofs.calls.Invariant.{told}
 
 -- ---- two's signed
@@ -126,15 +125,7 @@ module _ (l : List ℕ) (i : ℕ) (s : Session) (h : Reached s) where
 
   -- a read leaves the session
   read-keeps : outcome (history-of s) read s .session ≡ s
-  unfolding outcome
-  read-keeps = go (eqb (refusal (history-of s) read) 0)
-    where
-      done : Called
-      done = record { answer = accepted-answer read (history-of s); session = session-of (history-of s) }
-
-      go : (b : Bool) → cond b done (refusing (refusal (history-of s) read) s) .session ≡ s
-      go true = told h
-      go false = refl
+  read-keeps = by-cases (history-of s) read s (λ r _. r .session ≡ s) (λ _. told h) (λ _. refl)
 
   pub read-at : (j : ℕ) (a : Answer) → At l i read j → a ≡ call reads s .answer → (record { answer = a; next = j; session = s } ≡ record-call l i s) × Reached s
   read-at j a e f = answered read j (record { answer = a; next = j; session = s }) e (rw (f, read-keeps))

@@ -1,6 +1,7 @@
 -- The ★ cases hold: each row computes, but the answers for xm = −8, which are those for 8 at every order. With them, all that `Session::empty` promises.
 use mathlib.Core.Path.{_≡_, refl, sym, _∙_}
 use mathlib.Core.Bool.{Bool, true, false, cond}
+use borrow.Author.Tests.{eq-eqb, ne-eqb}
 use lib.Dec.{eqb}
 use Prim.Native.Nat.{ℕ}
 use lib.Ieee.{size, span, climb}
@@ -17,18 +18,16 @@ use Rattle.exact.proofs.Mirror.{lower-mirror, upper-mirror, read-mirror, refusa
 use Rattle.encounter.specs.declared.state.Session.{Session}
 use Rattle.encounter.specs.declared.state.Answer.{Answer}
 use Rattle.encounter.specs.Session.{empty, state, no-object, refused, bracket}
-use Rattle.encounter.specs.Calls.{history-after, session-of, history-of, accepted-answer, refusing, outcome, begins, begins-conjunction, adds, reads, call}
+use Rattle.encounter.specs.Calls.{history-after, history-of, accepted-answer, outcome, begins, begins-conjunction, adds, reads, call}
 use Rattle.encounter.specs.Claims.{mirrored-conjunction}
 use Rattle.encounter.specs.Stars.{E₂, All, stars}
+use Rattle.encounter.proofs.calls.Answering.{by-cases}
 
 -- the answer of a request depends on its refusal's number and on what it is answered where that is 0
 answer-of : (w : History) (q : Request) (s : Session) → outcome w q s .answer ≡ cond (eqb (refusal w q) 0) (accepted-answer q (history-after w q)) (refused (refusal w q))
-unfolding outcome
-answer-of w q s = go (eqb (refusal w q) 0)
-  where
-    go : (b : Bool) → cond b (record { answer = accepted-answer q (history-after w q); session = session-of (history-after w q) }) (refusing (refusal w q) s) .answer ≡ cond b (accepted-answer q (history-after w q)) (refused (refusal w q))
-    go true = refl
-    go false = refl
+answer-of w q s =
+    by-cases w q s (λ r _. r .answer ≡ cond (eqb (refusal w q) 0) (accepted-answer q (history-after w q)) (refused (refusal w q)))
+    (λ z. rw (eq-eqb (refusal w q) 0 z)) (λ some. rw (ne-eqb (refusal w q) 0 some))
 
 pub mirror-begin : (E : Encounter) (s : Session) → call (begins (mirrored E)) s .answer ≡ call (begins E) s .answer
 unfolding refusal
