@@ -5,7 +5,8 @@
 
 The program is target/bench/bench, built by bench/run; all its contenders are compared where none is named. Encounters
 are drawn over all sizes: zero misses, equal sigmas, t close to 64, the extremes, every refusal, adds in pieces, and
-orders to 4,096; before them four that have an end next to 1/10,000. Exits with 1 where an answer differs.
+orders to 4,096; before them four that have an end next to 1/10,000, and some with exact terms. Exits with 1 where an
+answer differs.
 """
 
 import argparse
@@ -19,12 +20,15 @@ import sys
 ROOT = pathlib.Path(__file__).resolve().parent.parent
 sys.dont_write_bytecode = True
 sys.path.insert(0, str(ROOT / "tests"))
+from edges import EXACT_TERMS
 from encounters import AT_THRESHOLD
 from fields import ANSWER, answer_numbers
 from reference import LARGEST, LARGEST_N, LARGEST_T, Session
 
 SEED = 1
 COUNT = 4000
+# The contender that counts exact terms.
+LIBRARY = "proved"
 # One encounter in this many goes on to a large order.
 LONG = 20
 EXTREMES = (1, 2, 3, LARGEST - 1, LARGEST)
@@ -135,6 +139,9 @@ def failures_of(bench, contender, calls, due):
     found = [tuple(map(int, line.split())) for line in output([bench, "--calls", contender], script)]
     if len(found) != len(calls):
         sys.exit(f"check: {contender}: {len(calls)} calls, {len(found)} answers")
+    if contender != LIBRARY:
+        # Its last field, the count of exact terms, is 0.
+        due = [(*a[:-1], 0) for a in due]
     failures = 0
     for call, answer, a in zip(calls, found, due):
         if answer != a:
@@ -152,12 +159,14 @@ def main():
     given = parser.parse_args()
     rng = random.Random(given.seed)
     calls = [call for inputs, *_ in AT_THRESHOLD for call in (("begin", *inputs), ("read",))]
+    calls += [call for inputs, N, *_ in EXACT_TERMS for call in (("begin", *inputs), ("add", N - 1), ("read",))]
     calls += [call for i in range(given.count) for call in calls_of(rng, i % LONG == 0)]
     due = list(answers(calls))
     reads = sum(call[0] == "read" and a[0] == 0 for call, a in zip(calls, due))
     refusals = collections.Counter(a[0] for a in due if a[0])
     counts = ", ".join(f"{n} of {r}" for r, n in sorted(refusals.items()))
-    print(f"{len(AT_THRESHOLD) + given.count} encounters, {len(calls)} calls, {reads} reads; refusals: {counts}")
+    encounters = len(AT_THRESHOLD) + len(EXACT_TERMS) + given.count
+    print(f"{encounters} encounters, {len(calls)} calls, {reads} reads; refusals: {counts}")
     names = [given.contender] if given.contender else output([given.bench, "--names"])
     failures = 0
     for name in names:

@@ -13,7 +13,9 @@ struct measured {
 };
 
 /* The refusal's number, or 0; the order; mantissa and exponent of the lower end, then of the upper one; the class,
-   0 clear, 1 alert, 2 open; the object number and the time. */
+   0 clear, 1 alert, 2 open; the object number and the time; the count of exact terms, which only the library has: the other
+   contenders do not count, and it is 0 there. So their times are those of the steps alone, and the library's over them shows
+   what counting costs too. */
 struct answer {
     uint32_t refusal, N;
     uint32_t ml;
@@ -22,6 +24,7 @@ struct answer {
     int32_t eh;
     uint32_t class_;
     uint32_t object, time;
+    uint32_t exact_terms;
 };
 
 struct contender {

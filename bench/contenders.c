@@ -12,8 +12,9 @@
 #define COPIES 16
 
 #define COPY_STRUCT(to, from) (*(to) = *(from))
-#define STRUCT_ENDS(s, a) \
-    ((void)(s), (struct answer){(a).refusal, (a).N, (a).lower.m, (a).lower.e, (a).upper.m, (a).upper.e, (a).class_, (a).object, (a).time})
+#define COUNTED(a, count) \
+    (struct answer){(a).refusal, (a).N, (a).lower.m, (a).lower.e, (a).upper.m, (a).upper.e, (a).class_, (a).object, (a).time, count}
+#define STRUCT_ENDS(s, a) ((void)(s), COUNTED(a, 0))
 
 #define NAME proved
 #define LABEL "proved"
@@ -25,7 +26,7 @@
 #define ADD jinthuol_add
 #define READ(s) jinthuol_read(*(s))
 #define COPY COPY_STRUCT
-#define ENDS STRUCT_ENDS
+#define ENDS(s, a) ((void)(s), COUNTED(a, (a).exact_terms))
 #include "calls.h"
 
 #define NAME same

@@ -57,10 +57,11 @@ double now(void)
 
 static void print_answer(const struct answer *a)
 {
-    printf("%" PRIu32 " %" PRIu32 " %" PRIu32 " %" PRId32 " %" PRIu32 " %" PRId32 " %" PRIu32 " %" PRIu32 " %" PRIu32 "\n",
-           a->refusal, a->N, a->ml, a->el, a->mh, a->eh, a->class_, a->object, a->time);
+    printf("%" PRIu32 " %" PRIu32 " %" PRIu32 " %" PRId32 " %" PRIu32 " %" PRId32, a->refusal, a->N, a->ml, a->el, a->mh, a->eh);
+    printf(" %" PRIu32 " %" PRIu32 " %" PRIu32 " %" PRIu32 "\n", a->class_, a->object, a->time, a->exact_terms);
 }
 
+/* But for the count of exact terms. */
 static int equal(const struct answer *a, const struct answer *b)
 {
     return a->refusal == b->refusal && a->N == b->N && a->ml == b->ml && a->el == b->el && a->mh == b->mh &&

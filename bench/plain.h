@@ -1,5 +1,6 @@
 /* begin, add and read of document 01 in whole numbers, in plain C with no proof: the same rounded steps as the proved
-   library's, written to be fast. begin_conjunction of request #104 is in calls.h, over each contender's begin. */
+   library's, written to be fast. begin_conjunction of request #104 is in calls.h, over each contender's begin. The exact
+   terms of request #105 are not counted. */
 #ifndef PLAIN_H
 #define PLAIN_H
 

@@ -1,4 +1,5 @@
-/* begin and add of crates/encounter in the same shape; the functions of wide.rt and sides.rt have their names. */
+/* begin and add of crates/encounter in the same shape; the functions of wide.rt and sides.rt have their names. What an
+   operation lost (request #105) is not formed here. */
 #include "same.h"
 #include <stdbool.h>
 

@@ -70,6 +70,11 @@ BELOW_A_POWER = 18579, 95136, 18760, 0, 4640
 ABOVE_A_POWER = 632, 5506137, 1379156, 4053824, 9949895
 SMALLEST = 1, 10000000, 887356, 9999905, 9999995
 
+# Of no document: five terms are exact, and none; the b of the steps is rounded, and xm is 0.
+FIVE_EXACT = 3, 4, 3, 8, 0
+NONE_EXACT = 1, 3, 1, 0, 0
+ROUNDED_B = 131071, 131072, 131071, 0, 0
+
 SCRIPTS = {
     "test-1": begin(*TEST_1) + reads_at(35, 36, 55, 101),
     "chan-1": begin(*CHAN_1) + reads_at(1, 5, 49),
@@ -121,6 +126,14 @@ SCRIPTS = {
     + reads_at(70)
     + begin_conjunction(TEST_1, 27386, 642)
     + reads_at(70),
+    "where-rounding-starts": begin(*HALF)
+    + reads_at(1, 2, 3, 20)
+    + begin(*FIVE_EXACT)
+    + reads_at(1, 4, 5, 6, 20)
+    + begin(*NONE_EXACT)
+    + reads_at(1, 20)
+    + begin(*ROUNDED_B)
+    + reads_at(1, 2, 20),
 }
 
 

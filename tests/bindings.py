@@ -72,7 +72,7 @@ def inputs_and_orders(rng):
             yield *encounter, N
     for encounter, *_ in AT_THRESHOLD:
         yield *encounter, 1
-    for encounter, N, _ in edges.AT_DECIMAL_EDGES:
+    for encounter, N, *_ in (*edges.AT_DECIMAL_EDGES, *edges.EXACT_TERMS):
         yield *encounter, N
     for encounter in encounters.at_limits():
         yield *encounter, rng.choice((2, 5))
@@ -105,17 +105,19 @@ def as_double(m, e):
     return "%.17g" % math.ldexp(m, e) if -1074 <= e <= 992 else "none"
 
 
-def line(call, answer):
+def lines_of(call, answer):
     """What the program prints of a call."""
     if answer.refusal:
-        return f"refused {answer.refusal}: {REFUSALS[answer.refusal].replace('−', '-')}"
+        return [f"refused {answer.refusal}: {REFUSALS[answer.refusal].replace('−', '-')}"]
     words = [WORDS[call], answer.N]
-    if call == "read":
-        words += [*answer.lower, *answer.upper, answer.class_name]
-        words += [records.decimal_text(False, answer.lower), records.decimal_text(True, answer.upper)]
-        words += [answer.object, answer.time]
-        words += [as_double(*answer.lower), as_double(*answer.upper)]
-    return " ".join(map(str, words))
+    if call != "read":
+        return [" ".join(map(str, words))]
+    words += [*answer.lower, *answer.upper, answer.class_name]
+    words += [records.decimal_text(False, answer.lower), records.decimal_text(True, answer.upper)]
+    words += [answer.object, answer.time, answer.exact]
+    words += [as_double(*answer.lower), as_double(*answer.upper)]
+    rounded = f"rounding starts at term {answer.exact + 1} of {answer.N}"
+    return [" ".join(map(str, words)), "every term so far is exact" if answer.exact == answer.N else rounded]
 
 
 def called(R, sx, sy, xm, ym, N, *of_object):
@@ -165,19 +167,21 @@ def of_c(rng, library):
             output([compiler, "-O2", *WARNINGS, *files, "-o", program])
         output([guard])
     tried = list(cases(rng))
-    due = [(case, *call) for case in tried for call in called(*case)]
-    answered = {(call, answer.refusal) for _, call, answer in due}
-    classes = {answer.class_name for _, call, answer in due if call == "read" and not answer.refusal}
-    if answered != edges.ANSWERS or classes != set(fields.CLASSES):
-        sys.exit(f"bindings: the encounters have only the answers {answered} and the classes {classes}")
+    made = [(case, *call) for case in tried for call in called(*case)]
+    answered = {(call, answer.refusal) for _, call, answer in made}
+    reads = [answer for _, call, answer in made if call == "read" and not answer.refusal]
+    classes, counts = {answer.class_name for answer in reads}, {answer.exact for answer in reads}
+    if answered != edges.ANSWERS or classes != set(fields.CLASSES) or not counts >= set(range(6)):
+        sys.exit(f"bindings: the encounters have only {answered}, the classes {classes} and the counts {counts}")
+    due = [(line, call, case) for case, call, answer in made for line in lines_of(call, answer)]
     lines = "".join(" ".join(map(str, case)) + "\n" for case in tried).encode()
     for compiler, program in programs.items():
         found = output([program], input=lines).decode().splitlines()
         if len(found) != len(due):
             differs(f"lines by {compiler}", len(found), len(due))
-        for printed, (case, call, answer) in zip(found, due):
-            if printed != line(call, answer):
-                differs(f"by {compiler}, {call} of {case}", printed, line(call, answer))
+        for printed, (line, call, case) in zip(found, due):
+            if printed != line:
+                differs(f"by {compiler}, {call} of {case}", printed, line)
         for wrong in WRONG_LINES:
             fails(f"{compiler}, {wrong}", program, input=wrong.encode())
         with open("/dev/full", "wb") as full:
@@ -222,6 +226,7 @@ def call_by_call(name, script, python):
             break
         a = getattr(found, record.kind.call)(*arguments(record, python))
         answer = [a.refusal, a.N, a.lower.m, a.lower.e, a.upper.m, a.upper.e, a.class_, a.object, a.time]
+        answer += [a.exact_terms]
         numbers = answer + list(found.kept.words)
         expected = fields.answer_numbers(record.called(due))
         # Python has the session's words unsigned.

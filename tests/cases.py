@@ -5,17 +5,20 @@
 
 For each encounter: the least order N at which a read is accepted, or the refusal that is due; at that
 order and at two later ones the exact quotients are between the two ends, and the class is that of the ends.
-Then encounters with an end next to 1/10,000, and document 01's "Encounters on each edge". Exits with 1 where
-anything differs.
+Then encounters with an end next to 1/10,000, document 01's "Encounters on each edge", and the count of exact terms of
+these and of drawn encounters. Exits with 1 where anything differs.
 """
 
+import random
 import sys
 from fractions import Fraction
 
 sys.dont_write_bytecode = True
 import brackets
+import drawn
 import edges
 import exact_series
+import options
 import orders
 from brackets import as_float
 from checks import Checks
@@ -23,8 +26,8 @@ from encounters import AT_THRESHOLD, DOCUMENTS, EDGES, FULL, HALF, IN_CENTIMETRE
 from exact_series import Encounter
 from orders import at_order
 from reference import LARGEST_N, LARGEST_T, THRESHOLD_FACTOR, Answer, Session
-from rounded import DOWN, UP
-from scaled import LEAST, ZERO
+from rounded import DOWN, UP, ZERO
+from scaled import LEAST
 
 # The convolution itself is formed to this cut.
 BY_DEFINITION = 16
@@ -102,17 +105,19 @@ def at_threshold():
     """Each end next to 1/10,000, on each side of it."""
     for inputs, end, side, name in AT_THRESHOLD:
         answer = orders.begun(inputs).read()
-        nearest = (DOWN if side == "below" else UP).ratio(1, THRESHOLD_FACTOR)
-        edge((getattr(answer, end), answer.class_name) == (nearest, name), f"{inputs}: {answer}")
+        *nearest, _ = (DOWN if side == "below" else UP).ratio(1, THRESHOLD_FACTOR)
+        edge((getattr(answer, end), answer.class_name) == (tuple(nearest), name), f"{inputs}: {answer}")
         edge(brackets.has_its_class(answer), f"{inputs}: class")
 
 
 def on_edges():
     """Document 01, "Encounters on each edge"; its begins and its listing are in edges.py, for self_test.py."""
-    for n, d, lower, upper in edges.RATIOS:
-        edge((DOWN.ratio(n, d), UP.ratio(n, d)) == (lower, upper), f"D and U of {n}/{d}")
+    for n, d, *both in edges.RATIOS:
+        # Something is lost just where D and U differ.
+        lost = both[0] != both[1]
+        edge([r.ratio(n, d) for r in (DOWN, UP)] == [(*a, lost) for a in both], f"D and U of {n}/{d}")
 
-    half, quarter, eighth = (LEAST, -32), (LEAST, -33), (LEAST, -34)
+    half, quarter, eighth = ((LEAST, e, False) for e in (-32, -33, -34))
     session = at_order(HALF, 1)
     edge(session.M == half, "(10, 10, 10, 0, 0): M")
     for side in (session.lower, session.upper):
@@ -135,10 +140,38 @@ def on_edges():
     edge(at_order(HALF, LARGEST_N).N == LARGEST_N, "N = 1, and an add to the largest order")
 
 
+# The orders of the drawn encounters: no term is known to be exact after the fifth.
+ORDERS = 8
+
+
+def exact_terms():
+    """Request #105: the exact terms, by the flags of the steps and by exact fractions."""
+    rng = random.Random(options.SEED)
+    for inputs, N, *due in edges.EXACT_TERMS:
+        session = at_order(inputs, N)
+        found = (session.exact, session.lossless), exact_series.exact_terms(inputs, N)
+        checks.check(found == (tuple(due), tuple(due)), "counts", f"{tuple(inputs)} at {N}: {found}, due {due}")
+    tried = [*DOCUMENTS.values(), *EDGES.values(), *(inputs for inputs, *_ in edges.EXACT_TERMS)]
+    tried += [drawn.accepted(rng) for _ in range(200)] + [drawn.with_exact_terms(rng) for _ in range(800)]
+    met = set()
+    for inputs in filter(orders.begun, tried):
+        session = orders.begun(inputs)
+        for N in range(1, ORDERS + 1):
+            found, due = (session.exact, session.lossless), exact_series.exact_terms(inputs, N)
+            checks.check(found == due, "counts", f"{inputs} at {N}: {found}, due {due}")
+            met.add((N, *found))
+            session.add(1)
+    # Up to four terms: nothing is lost yet, or on the way of the next one, or on that of an earlier one.
+    due = {(N, N, lossless) for N in range(1, 5) for lossless in (0, 1)}
+    due |= {(N, exact, 0) for N in range(1, 6) for exact in range(N)}
+    checks.check(due <= met, "counts", f"not met: {sorted(due - met)}")
+
+
 def main():
     table()
     at_threshold()
     on_edges()
+    exact_terms()
     checks.end()
 
 

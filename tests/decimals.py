@@ -45,7 +45,9 @@ def at_least(a, b):
 
 # "the end times the table's 10^k [..], rounding down throughout for the lower end and up for the upper"
 def times_power(up, x, k):
-    return (UP if up else DOWN).product(x, TABLE[up][k])
+    # What is lost there is not asked.
+    m, e, _ = (UP if up else DOWN).product((*x, False), (*TABLE[up][k], False))
+    return m, e
 
 
 # "take the least k for which the end times the table's 10^k is at least 1,000"

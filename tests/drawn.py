@@ -99,6 +99,19 @@ def within_limits(rng):
     return Encounter(rng.choice(sizes), sx, sy, *misses)
 
 
+def with_exact_terms(rng):
+    """Accepted, with R/sx, R/sy, xm/sx and ym/sy odd numbers times powers of two, or 0: many have exact terms."""
+    power = lambda: 1 << rng.randint(0, 20)
+    odd = lambda: rng.choice((1, 1, 1, 3, 3, 5, 7, 9, 15, 255, 257))
+    while True:
+        # sx/sy is a power of two over this.
+        w = rng.choice((1, 1, 1, 3, 3, 7, 15, (1 << 17) - 1))
+        R, sx, sy, xm, ym = w * odd() * power(), power(), w * power(), odd() * power(), w * odd() * power()
+        drawn = Encounter(R, sx, sy, rng.choice((0, xm, -xm)), rng.choice((0, ym, -ym)))
+        if orders.begun(drawn):
+            return drawn
+
+
 def encounter(rng):
     """Of any of these; most are accepted."""
     way = rng.randrange(10)
@@ -108,6 +121,8 @@ def encounter(rng):
         return within_limits(rng)
     if way == 2:
         return rng.choice((*beside_64(rng), *near_64(rng)))
+    if way == 3:
+        return with_exact_terms(rng)
     return ordinary(rng)
 
 

@@ -81,17 +81,21 @@ pub fn encounter_at(b: &[u8], at: usize) -> Encounter {
 }
 """
 
-# The arithmetic. Reads records of 18 bytes: the kind, the direction (1 for U), then two operands of 8 bytes,
-# little-endian: m and e of a scaled number, or a whole number. Writes m and e of the answer. The answer of at_most is
-# m = 1 or m = 0, with e = 0.
+# The arithmetic. Reads records of 18 bytes: the kind; the direction (1 for U), with 2 more where something was lost on the
+# way to the first operand and 4 more where it was on that to the second; then two operands of 8 bytes, little-endian: m
+# and e of a scaled number, or a whole number. Writes m and e of the answer, and 1 where something was lost, else 0. The
+# answer of at_most is m = 1 or m = 0, with e = 0. Kinds 10 to 13 pass on what was lost before; the others do not have it.
 OPERATIONS = """\
 mod words;
+use crate::words::put;
 use crate::words::put_scaled;
 use crate::words::signed;
 use crate::words::word;
 use encounter::arithmetic::scaled;
+use encounter::arithmetic::traced;
 use encounter::arithmetic::wide;
 use exact::Scaled;
+use exact::Traced;
 
 fn long(b: &[u8; 18], at: usize) -> u64 {
     (word(b, at) as u64) + (word(b, at + 4) as u64) * 4294967296
@@ -101,42 +105,62 @@ fn operand(b: &[u8; 18], at: usize) -> Scaled {
     Scaled { m: word(b, at), e: signed(word(b, at + 4)) }
 }
 
-fn truth(t: bool) -> Scaled {
+fn truth(t: bool) -> Traced {
     if t {
-        return Scaled { m: 1, e: 0 };
+        return traced::clean(Scaled { m: 1, e: 0 });
     }
-    Scaled { m: 0, e: 0 }
+    traced::clean(Scaled { m: 0, e: 0 })
 }
 
-fn over(up: bool, a: Scaled, k: u32) -> Scaled {
-    wide::narrowed(wide::over(up, wide::widen(a), k as u64))
+fn over_by(up: bool, a: Scaled, k: u32) -> Traced {
+    let r = wide::over_by(up, wide::widen(a), wide::reciprocal_of(k as u64));
+    Traced { number: wide::narrowed(r.number), lost: r.lost }
 }
 
-fn over_by(up: bool, a: Scaled, k: u32) -> Scaled {
-    wide::narrowed(wide::over_by(up, wide::widen(a), wide::reciprocal_of(k as u64)))
+fn passing_on(b: &[u8; 18]) -> Traced {
+    let up = b[1] % 2 == 1;
+    let x = Traced { number: operand(b, 2), lost: b[1] / 2 % 2 == 1 };
+    let y = Traced { number: operand(b, 10), lost: b[1] / 4 == 1 };
+    match b[0] {
+        10 => traced::product(up, x, y),
+        11 => traced::sum(up, x, y),
+        12 => traced::over(up, x, word(b, 10) as u64),
+        _ => traced::halved(x),
+    }
 }
 
-fn answer(b: &[u8; 18]) -> Scaled {
+fn answer(b: &[u8; 18]) -> Traced {
     let up = b[1] == 1;
     match b[0] {
         0 => scaled::product(up, operand(b, 2), operand(b, 10)),
         1 => scaled::sum(up, operand(b, 2), operand(b, 10)),
-        2 => over(up, operand(b, 2), word(b, 10)),
+        2 => scaled::over(up, operand(b, 2), word(b, 10) as u64),
         3 => scaled::quotient(up, operand(b, 2), operand(b, 10)),
         4 => scaled::ratio(up, long(b, 2), long(b, 10)),
-        5 => scaled::halved(operand(b, 2)),
-        6 => scaled::doubled(operand(b, 2)),
+        5 => traced::clean(scaled::halved(operand(b, 2))),
+        6 => traced::clean(scaled::doubled(operand(b, 2))),
         7 => truth(scaled::at_most(operand(b, 2), operand(b, 10))),
-        8 => Scaled::whole(word(b, 2)),
-        _ => over_by(up, operand(b, 2), word(b, 10)),
+        8 => traced::clean(Scaled::whole(word(b, 2))),
+        9 => over_by(up, operand(b, 2), word(b, 10)),
+        _ => passing_on(b),
+    }
+}
+
+fn put_lost(line: &mut [u8], at: usize, lost: bool) {
+    if lost {
+        put(line, at, 1);
+    } else {
+        put(line, at, 0);
     }
 }
 
 fn main() {
     let mut record = [0u8; 18];
-    let mut line = [10u8; 17];
+    let mut line = [10u8; 25];
     while io::read_full(0, &mut record) == 18 {
-        put_scaled(&mut line, 0, answer(&record));
+        let a = answer(&record);
+        let next = put_scaled(&mut line, 0, a.number);
+        put_lost(&mut line, next, a.lost);
         io::write_all(1, &line);
     }
 }
@@ -166,7 +190,7 @@ use exact::Scaled;
 
 fn nothing() -> Answer {
     let zero = Scaled::ZERO;
-    Answer { refusal: 0, N: 0, lower: zero, upper: zero, class: Class::Clear, object: 0, time: 0 }
+    Answer { refusal: 0, N: 0, lower: zero, upper: zero, class: Class::Clear, object: 0, time: 0, exact: 0 }
 }
 
 fn conjunction_at(b: &[u8; 29]) -> Conjunction {
@@ -213,7 +237,8 @@ fn put_answer(line: &mut [u8], at: usize, a: Answer) -> usize {
     next = put_scaled(line, next, a.upper);
     next = put_class(line, next, a.class);
     next = put(line, next, a.object);
-    put(line, next, a.time)
+    next = put(line, next, a.time);
+    put(line, next, a.exact)
 }
 
 fn put_encounter(line: &mut [u8], at: usize, E: Encounter) -> usize {
@@ -247,12 +272,14 @@ fn put_session(line: &mut [u8], at: usize, s: Session) -> usize {
     next = put_side(line, next, s.upper);
     next = put_scaled(line, next, s.r256);
     next = put_scaled(line, next, s.M);
-    put_scaled(line, next, s.d)
+    next = put_scaled(line, next, s.d);
+    next = put(line, next, s.exact);
+    put(line, next, s.lossless)
 }
 
 fn main() {
     let mut record = [0u8; 29];
-    let mut line = [10u8; 537];
+    let mut line = [10u8; 561];
     let mut s = Session::empty();
     while io::read_full(0, &mut record) == 29 {
         let answer = call(&mut s, &record);
@@ -297,7 +324,7 @@ fn main() {
         let E = encounter_at(&b, 0);
         let below = letters(false, E);
         let above = letters(true, E);
-        let t = pair_of(below.t, above.t);
+        let t = pair_of(below.t.number, above.t.number);
         let one = pair_of(Scaled::ONE, Scaled::ONE);
         let mut w = PowerPairs { r: one, sum: one };
         show_round(w);
@@ -307,7 +334,7 @@ fn main() {
             show_round(w);
             k += 1;
         }
-        let taken = exponential_sums(below.t, above.t);
+        let taken = exponential_sums(below.t.number, above.t.number);
         show(Scaled::ZERO, taken.lower, taken.r256, taken.upper);
     }
 }

@@ -1,6 +1,6 @@
 """Fractions, encounters, orders and scripts with the answer that documents 01 and 02 give, and decimals of numbers."""
 
-from encounters import ALFANO_3, ALFANO_5, FULL, HALF, LARGE, PAST_FULL, TEST_1, THIN
+from encounters import ALFANO_3, ALFANO_5, FIVE, FULL, HALF, LARGE, LOST_B, LOST_P, PAST_FULL, TEST_1, THIN, THIRDS
 from records import KINDS, MOST_COUNT, READ, add, begin, begin_conjunction
 from reference import LARGEST, LARGEST_N, LONGEST_SCRIPT
 from scaled import LEAST, LIMIT, ONE, ZERO, Scaled
@@ -185,6 +185,47 @@ LEAST_ORDERS = (
 )
 
 
+# Request #105: an encounter, an order, the count of exact terms there, and whether nothing is lost (1) or something is
+# (0) on the way to the numbers that the next term is formed of.
+EXACT_TERMS = (
+    # "For (10, 10, 10, 0, 0) at N = 3 it is 2."
+    (HALF, 1, 1, 1),
+    (HALF, 2, 2, 1),
+    (HALF, 3, 2, 0),
+    (HALF, 4, 2, 0),
+    (HALF, LARGEST_N, 2, 0),
+    # c(0) is lost, and u is not.
+    (THIRDS, 1, 0, 0),
+    (THIRDS, 2, 0, 0),
+    # u is lost, and c(0) is not.
+    ((6, 16, 9, 0, 0), 1, 1, 0),
+    ((6, 16, 9, 0, 0), 2, 1, 0),
+    # b is lost, and zx is 0: u, g, h, c(0) and p(0) are not, and X is 0.
+    (LOST_B, 1, 1, 0),
+    (LOST_B, 2, 1, 0),
+    # p(0) is lost, and nothing else that c(1) is formed of.
+    ((257, 256, 256, 0, 0), 1, 1, 0),
+    ((257, 256, 256, 0, 0), 2, 1, 0),
+    # p(1) is lost, and c(1) is not.
+    (LOST_P, 1, 1, 1),
+    (LOST_P, 2, 2, 0),
+    (LOST_P, 3, 2, 0),
+    (LOST_P, LARGEST_N, 2, 0),
+    # Four and five exact terms. No encounter with more is known.
+    ((3, 1, 1, 0, 0), 3, 3, 1),
+    ((3, 1, 1, 0, 0), 4, 4, 1),
+    ((3, 1, 1, 0, 0), 5, 4, 0),
+    (FIVE, 1, 1, 1),
+    (FIVE, 2, 2, 1),
+    (FIVE, 3, 3, 1),
+    (FIVE, 4, 4, 1),
+    (FIVE, 5, 5, 0),
+    (FIVE, 6, 5, 0),
+    (FIVE, LARGEST_N, 5, 0),
+    ((6, 1, 1, -4, 4), 4, 4, 1),
+    ((6, 1, 1, -4, 4), 700, 5, 0),
+)
+
 # What the read of (10, 10, 10, 0, 0) at N = 3 prints between the order and the object number.
 HALF_AT_3 = "3364829335 -33 3391965302 -33 alert 3.917e-01 3.949e-01"
 # Request #103: encounters with an end at an edge of the decimals, the order, and what the read prints likewise.
@@ -292,37 +333,76 @@ def of_decimals():
     for inputs, N, printed in AT_DECIMAL_EDGES:
         name, script = f"the decimals of {tuple(inputs)} at {N}", begin(*inputs)
         if N == 1:
-            yield name, script + READ, f"0 begun 1\n21 read 1 {printed} 0 0\n"
+            yield name, script + READ, f"0 begun 1\n21 read 1 {printed} 0 0 0\n"
         else:
-            yield name, script + add(N - 1) + READ, f"0 begun 1\n21 added {N}\n24 read {N} {printed} 0 0\n"
+            # c(0) is lost, but for the first.
+            exact = 2 if inputs == HALF else 0
+            yield name, script + add(N - 1) + READ, f"0 begun 1\n21 added {N}\n24 read {N} {printed} 0 0 {exact}\n"
 
 
 def of_objects():
     """Request #104: the object number and the time that a read answers, and which begins change them."""
     read = f"read 3 {HALF_AT_3}"
-    begun, lines = BEGIN_OBJECT + add(2) + READ, f"0 begun 1\n29 added 3\n32 {read} 25544 1440\n"
+    begun, lines = BEGIN_OBJECT + add(2) + READ, f"0 begun 1\n29 added 3\n32 {read} 25544 1440 2\n"
     body = "0a000000 0a000000 0a000000 00000000 00000000 c8630000 a0050000"
     yield "byte by byte", bytes.fromhex("04" + body) + begun[29:], lines
     yield "kind 4 alone", BEGIN_OBJECT, "0 begun 1\n"
     for number, time in OBJECTS:
         script = begin_conjunction(*HALF, number, time) + add(2) + READ
-        accepted = f"0 begun 1\n29 added 3\n32 {read} {number} {time}\n"
+        accepted = f"0 begun 1\n29 added 3\n32 {read} {number} {time} 2\n"
         due = accepted if number else "0 refused 9\n29 refused 21\n32 refused 21\n"
         yield f"object {number} at {time}", script, due
     # Both are kept where a begin is refused, of either kind.
     for refusal, inputs in zip(range(3, 8), REFUSED):
         for record in begin(*inputs), begin_conjunction(*inputs, 7, 8), begin_conjunction(*inputs, 0, 8):
-            due = f"{lines}33 refused {refusal}\n{33 + len(record)} {read} 25544 1440\n"
+            due = f"{lines}33 refused {refusal}\n{33 + len(record)} {read} 25544 1440 2\n"
             yield f"kept after {refusal}, kind {record[0]}", begun + record + READ, due
-    due = f"{lines}33 refused 9\n62 {read} 25544 1440\n"
+    due = f"{lines}33 refused 9\n62 {read} 25544 1440 2\n"
     yield "kept after 9", begun + begin_conjunction(*FULL, 0, 8) + READ, due
     # "After a kind 1 begin both are 0", and after another one of kind 4 they are its own.
-    again = f"{lines}33 begun 1\n54 added 3\n57 {read} 0 0\n"
+    again = f"{lines}33 begun 1\n54 added 3\n57 {read} 0 0 2\n"
     yield "kind 1 after kind 4", begun + BEGIN_HALF + add(2) + READ, again
     script = begun + begin_conjunction(*HALF, 1440, 25544) + add(2) + READ
-    yield "kind 4 after kind 4", script, f"{lines}33 begun 1\n62 added 3\n65 {read} 1440 25544\n"
+    yield "kind 4 after kind 4", script, f"{lines}33 begun 1\n62 added 3\n65 {read} 1440 25544 2\n"
+
+
+# Request #105: encounters, each with orders and what the read prints behind each.
+EXACT_READS = (
+    (
+        HALF,
+        (1, "2605029163 -33 3907544026 -33 alert 3.032e-01 4.549e-01 0 0 1"),
+        (2, "3256286454 -33 3473372468 -33 alert 3.790e-01 4.044e-01 0 0 2"),
+        (3, f"{HALF_AT_3} 0 0 2"),
+    ),
+    (
+        FIVE,
+        (4, "3745196195 -36 3811685336 -36 alert 5.449e-02 5.547e-02 0 0 4"),
+        (5, "3752161430 -36 3765147828 -36 alert 5.460e-02 5.480e-02 0 0 5"),
+        (6, "3752829750 -36 3755004059 -36 alert 5.461e-02 5.465e-02 0 0 5"),
+    ),
+    (LOST_B, (2, "3256266578 -33 3473354249 -33 alert 3.790e-01 4.044e-01 0 0 1")),
+    (LOST_P, (2, "3238458928 -33 3451334730 -33 alert 3.770e-01 4.018e-01 0 0 2")),
+    (THIRDS, (1, "3473372217 -35 2990959625 -34 alert 1.010e-01 1.741e-01 0 0 0")),
+)
+
+
+def of_exact_terms():
+    for inputs, *reads in EXACT_READS:
+        script, lines, before = begin(*inputs), "0 begun 1\n", 1
+        for N, printed in reads:
+            if N > before:
+                lines += f"{len(script)} added {N}\n"
+                script += add(N - before)
+            lines += f"{len(script)} read {N} {printed}\n"
+            script, before = script + READ, N
+        yield f"the exact terms of {tuple(inputs)}", script, lines
+    # An add of 0 and refused records between change nothing, and the next begin starts over.
+    script = begin(*FIVE) + add(3) + add(0) + begin(*REFUSED[0]) + add(LARGEST_N) + add(1) + READ + BEGIN_HALF + READ
+    due = "0 begun 1\n21 added 4\n24 added 4\n27 refused 3\n48 refused 22\n51 added 5\n"
+    due += f"54 read 5 {EXACT_READS[1][2][1]}\n55 begun 1\n76 read 1 {EXACT_READS[0][1][1]}\n"
+    yield "exact terms with refused records between", script, due
 
 
 def scripts():
-    for part in of_document, of_refusals_1_and_2, of_the_state, of_decimals, of_objects, of_lengths:
+    for part in of_document, of_refusals_1_and_2, of_the_state, of_decimals, of_objects, of_exact_terms, of_lengths:
         yield from part()

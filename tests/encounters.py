@@ -83,6 +83,12 @@ EDGES = {
 SMALL = Encounter(7, 9, 5, -4, 3)
 THIN = Encounter(1, LARGEST, LARGEST, 0, 0)
 
+# Request #105: five exact terms. c(0) is lost. b is lost, and xm is 0. p(1) is lost, and c(1) is not.
+FIVE = Encounter(3, 4, 3, 8, 0)
+THIRDS = Encounter(1, 3, 1, 0, 0)
+LOST_B = Encounter(131071, 131072, 131071, 0, 0)
+LOST_P = Encounter(255, 256, 256, 0, 0)
+
 # Encounter, end, side, class: at N = 1 that end is the scaled number next to 1/10,000 on that side, and the read has that
 # class. No scaled number is 1/10,000 itself.
 AT_THRESHOLD = [

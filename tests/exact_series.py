@@ -18,6 +18,8 @@ from fractions import Fraction
 from math import factorial, lcm
 from typing import NamedTuple
 
+from scaled import BITS
+
 
 class Encounter(NamedTuple):
     """The five inputs in whole centimetres."""
@@ -113,14 +115,55 @@ def by_definition(encounter, N):
     return [a[n] / factorial(n + 1) for n in range(N)]
 
 
+def fits(q):
+    """Whether a fraction is a scaled number: an m below 2^32 times a power of two."""
+    n, d = q.numerator, q.denominator
+    # Of the largest odd divisor of n, or of 0.
+    bits = n.bit_length() - (n & -n).bit_length() + 1 if n else 0
+    return bits <= BITS and d & (d - 1) == 0
+
+
+def exact_terms(encounter, N):
+    """Request #105: "the count of leading terms, of the N summed, on whose way, on either side, nothing was lost".
+
+    Also whether nothing was lost on the way to what the next term is formed of. By the rounded steps on exact
+    fractions: while nothing is lost the numbers of both sides are these fractions, so a rounding loses something just
+    where its fraction is no scaled number.
+    """
+    R, sx, sy, xm, ym = encounter
+    c = Fraction(R * R, 2 * sx * sy)
+    if not fits(c):
+        return 0, False
+    u, b = Fraction(R * R, 2 * sy * sy), Fraction(R * R, 2 * sx * sx)
+    zx, zy = Fraction(xm * xm, 2 * sx * sx), Fraction(ym * ym, 2 * sy * sy)
+    g = Fraction(sx * sx - sy * sy, sx * sx)
+    h, X, Y = u * g, zx * b, zy * u
+    p, v, y = u * c, c, c
+    # What is rounded on the way of the next term and not on that of an earlier one.
+    way = [u, b, zx, zy, g, h, X, Y, p]
+    for n in range(1, N):
+        # From c, p, v and y at n − 1 to c(n).
+        hv, hy, Xy, Yc = h * v, h * y, X * y, Y * c
+        sums = p + hv / 2, p + hv / 2 + Xy, p + hv / 2 + Xy + Yc
+        c = sums[-1] / (n * (n + 1))
+        if not all(map(fits, [*way, hv, Xy, Yc, *sums, c])):
+            return n, False
+        # And to p, v and y at n, which c(n+1) is formed of.
+        parts = p / (n + 1), hv / (n + 1), hy / (n + 1)
+        p, v = u * (c + parts[0]), c + parts[1]
+        y = v + parts[2]
+        way = [hy, *parts, c + parts[0], p, v, y]
+    return N, all(map(fits, way))
+
+
 def at_most(p, q):
     """Whether the fraction p is at most the fraction q, both as pairs."""
     return p[0] * q[1] <= q[0] * p[1]
 
 
 def scaled_pair(a):
-    """A scaled number (m, e) as a pair."""
-    m, e = a
+    """An end (m, e) or a number of rounded.py as a pair."""
+    m, e = a[:2]
     return (m << e, 1) if e >= 0 else (m, 1 << -e)
 
 

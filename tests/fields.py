@@ -18,6 +18,7 @@ ANSWER = [
     ("answer.class", False),
     ("answer.object", False),
     ("answer.time", False),
+    ("answer.exact", False),
 ]
 SESSION = [
     *[(name, name.endswith("m")) for name in INPUTS],
@@ -26,17 +27,20 @@ SESSION = [
     ("N", False),
     *scaled_fields(f"{side}.{name}" for side in ("lower", "upper") for name in SIDE),
     *scaled_fields(["r256", "M", "d"]),
+    ("exact", False),
+    ("lossless", False),
 ]
 FIELDS = ANSWER + SESSION
 
 
 def side_numbers(side):
-    return [number for name in SIDE for number in getattr(side, name)]
+    return [number for name in SIDE for number in getattr(side, name)[:2]]
 
 
 def answer_numbers(answer):
     class_ = CLASSES.index(answer.class_name)
-    return [answer.refusal, answer.N, *answer.lower, *answer.upper, class_, answer.object, answer.time]
+    of_object = answer.object, answer.time
+    return [answer.refusal, answer.N, *answer.lower, *answer.upper, class_, *of_object, answer.exact]
 
 
 def session_numbers(session):
@@ -47,5 +51,7 @@ def session_numbers(session):
         session.N,
         *side_numbers(session.lower),
         *side_numbers(session.upper),
-        *(*session.r256, *session.M, *session.d),
+        *(*session.r256[:2], *session.M[:2], *session.d[:2]),
+        session.exact,
+        session.lossless,
     ]

@@ -1,21 +1,21 @@
 /* Lends a session with words behind it to both begins and to add, and exits with 1 where one of these words was written: so the header's session is as large as
  * the library's, or larger. That it is not larger: tests/texts.py holds its words to those of fields.py, which tests/bindings.py compares with the library's.
- * Also where a read answers another object number or time than those of the last begin that was accepted. A session, a conjunction or an answer of the header that
- * has padding does not compile here. */
+ * Also where a read answers another object number or time than those of the last begin that was accepted, or another count of exact terms than the encounter's.
+ * A session, a conjunction or an answer of the header that has padding does not compile here. */
 #include <string.h>
 
 #include "jinthuol.h"
 
 typedef char session_has_no_padding[sizeof(jinthuol_session) == sizeof(((jinthuol_session *)0)->words) ? 1 : -1];
 typedef char conjunction_has_7_words[sizeof(jinthuol_conjunction) == 28 ? 1 : -1];
-typedef char answer_has_9_words[sizeof(jinthuol_answer) == 36 ? 1 : -1];
+typedef char answer_has_10_words[sizeof(jinthuol_answer) == 40 ? 1 : -1];
 
 static const uint32_t behind[64] = {0x5a5a5a5a, 1, 0xffffffff, 2, 0, 3, 0x80000000, 4};
 
 static int answers(jinthuol_session session, uint32_t object, uint32_t time)
 {
     jinthuol_answer answer = jinthuol_read(session);
-    return answer.N == 55 && answer.object == object && answer.time == time;
+    return answer.N == 55 && answer.object == object && answer.time == time && answer.exact_terms == 5;
 }
 
 int main(void)
@@ -24,7 +24,7 @@ int main(void)
         jinthuol_session session;
         uint32_t guard[64];
     } lent;
-    jinthuol_encounter encounter = {500, 5000, 100, 1000, 0};
+    jinthuol_encounter encounter = {3, 4, 3, 8, 0};
     jinthuol_conjunction conjunction = {encounter, 25544, 1440};
 
     memcpy(lent.guard, behind, sizeof behind);

@@ -26,6 +26,7 @@ import ends
 import options
 import scaled
 from checks import Checks
+from edges import EXACT_TERMS
 from encounters import AT_THRESHOLD
 from options import ROOT
 from reference import REFUSALS
@@ -198,8 +199,9 @@ def is_next(x, exact, up):
     return on_its_side and (nearer is None or sign * nearer < sign * exact or here == exact)
 
 
-# Test 1 with 55 terms.
-AT_55 = "N = 55: 2627622691 × 2^-35 to 2627623074 × 2^-35, alert, 7.647e-02 to 7.648e-02"
+# Test 1 with 55 terms, without an object.
+ENDS_55 = "N = 55: 2627622691 × 2^-35 to 2627623074 × 2^-35, alert, 7.647e-02 to 7.648e-02"
+AT_55 = f"{ENDS_55}, exact terms: 1"
 
 
 def of_answers(module):
@@ -215,7 +217,7 @@ def of_answers(module):
         (session.read(), AT_55),
         (session.begin_conjunction(conjunction), "N = 1"),
         (session.add(54), "N = 55"),
-        (session.read(), f"{AT_55}, object 25544 at minute 1440"),
+        (session.read(), f"{ENDS_55}, object 25544 at minute 1440, exact terms: 1"),
         (session.begin(conjunction.encounter), "N = 1"),
         (session.add(54), "N = 55"),
         (session.read(), AT_55),
@@ -229,7 +231,7 @@ def of_answers(module):
         checks.check(named == (number, name, name), "answers", f"class of {inputs}: {named}")
     answer = session.read()
     both = "lower=Scaled(m=2627622691, e=-35), upper=Scaled(m=2627623074, e=-35)"
-    due = f"Answer(refusal=0, N=55, {both}, class_=1, object=0, time=0)"
+    due = f"Answer(refusal=0, N=55, {both}, class_=1, object=0, time=0, exact_terms=1)"
     checks.check(repr(answer) == due, "answers", f"repr: {answer!r}")
     checks.check(answer == session.read() and answer != session.add(0), "answers", "equal answers")
     floats = answer.lower.m * 2.0**-35, answer.upper.m * 2.0**-35
@@ -239,6 +241,12 @@ def of_answers(module):
     other.add(54)
     ok = answer != other.read() and (other.read().object, other.read().time) == (25544, 1440)
     checks.check(ok and session.kept != other.kept, "answers", f"of an object: {other.read()!r}")
+    for inputs, N, exact, _ in EXACT_TERMS:
+        other.begin(module.Encounter(*inputs))
+        other.add(N - 1)
+        if other.read().has_ends:
+            found = other.read().exact_terms, str(other.read()).split(", ")[-1]
+            checks.check(found == (exact, f"exact terms: {exact}"), "answers", f"{tuple(inputs)} at {N}: {found}")
     checks.check(module.REFUSALS == REFUSALS, "answers", "texts of the refusals")
     for number in REFUSALS:
         printed = str(module.Answer(refusal=number))

@@ -26,7 +26,7 @@ from scaled import LEAST, LIMIT, ZERO, Scaled
 # The cases of one run; the interpreter takes about 1,000 steps for one.
 BATCH = scratch.MOST_STEPS // 2000
 # The numbers of a line.
-FIELDS = [("m", False), ("e", True)]
+FIELDS = [("m", False), ("e", True), ("lost", False)]
 
 
 class Kind(NamedTuple):
@@ -49,30 +49,40 @@ KINDS = {
     "at_most": Kind(False, lambda a, b: Scaled(int(scaled.at_most(a, b)), 0), None),
     "whole": Kind(False, lambda n, _: scaled.whole(n), lambda n, _: (Fraction(n), 0)),
     "over_by": Kind(True, scaled.over, scaled.exact_over),
+    # These pass on what was lost before.
+    "traced product": Kind(True, scaled.product, scaled.exact_product),
+    "traced sum": Kind(True, scaled.plus, scaled.exact_sum),
+    "traced over": Kind(True, scaled.over, scaled.exact_over),
+    "traced halved": Kind(False, lambda a, _: scaled.halved(a), lambda a, _: scaled.exact_over(a, 2)),
 }
 NUMBERS = {kind: n for n, kind in enumerate(KINDS)}
 
 
 class Case(NamedTuple):
+    """An operation with its operands, and whether something was lost on the way to these."""
+
     kind: str
     up: bool
     x: object
     y: object = 0
-
-
-def is_defined(up, r, q, shift):
-    """Whether r is D or U of q × 2^shift by the definition, with 2^shift divided out."""
-    return scaled.is_rounded(up, r if r == ZERO else Scaled(r.m, r.e - shift), q)
+    lost: tuple = (False, False)
 
 
 def expected(case):
-    """The answer by scaled.py, tested against the definition of D or U, or of both where it is exact."""
+    """The answer by scaled.py, tested against the definition of D or U, or of both where it is exact; and what is lost.
+
+    "Every rounding must say whether it lost anything, and everything built on rounding must pass that on."
+    """
     kind = KINDS[case.kind]
     r = kind.answer(case.up, case.x, case.y) if kind.directed else kind.answer(case.x, case.y)
-    if kind.exact:
-        for up in [case.up] if kind.directed else [False, True]:
-            assert is_defined(up, r, *kind.exact(case.x, case.y)), case
-    return r
+    if not kind.exact:
+        return *r, 0
+    q, shift = kind.exact(case.x, case.y)
+    # With 2^shift divided out.
+    a = r if r == ZERO else Scaled(r.m, r.e - shift)
+    for up in [case.up] if kind.directed else [False, True]:
+        assert scaled.is_rounded(up, a, q), case
+    return *r, int(any(case.lost) or scaled.value(a) != q)
 
 
 # The operands.
@@ -151,6 +161,26 @@ def of_pairs(draw):
         yield from both("sum", a, b)
         yield from both("quotient", a, b)
         yield Case("at_most", False, a, b)
+
+
+LOST = list(itertools.product((False, True), repeat=2))
+
+
+def of_losses(draw):
+    """Operands of which one or both or none is zero, with each way of having lost something before."""
+    for _ in range(150):
+        # Many of these have an exact product, an exact sum and an exact quotient.
+        e = max(draw.e(), 20 - E_END)
+        f = e - draw.random.randint(0, 20)
+        a = draw.random.choice((ZERO, Scaled(draw.short() << 16, e), Scaled(draw.m(), e)))
+        b = draw.random.choice((ZERO, Scaled(draw.short() << 16, f), Scaled(draw.m(), f)))
+        k = draw.random.choice((1, 2, 3, 4, 6, draw.whole(LIMIT - 1)))
+        for up, lost in itertools.product((False, True), LOST):
+            yield Case("traced product", up, a, b, lost)
+            yield Case("traced sum", up, a, b, lost)
+        for up, before in itertools.product((False, True), repeat=2):
+            yield Case("traced over", up, a, k, (before, False))
+            yield Case("traced halved", False, a, 0, (before, False))
 
 
 def of_far_exponents(draw):
@@ -238,6 +268,7 @@ def of_one_number(draw):
 
 PARTS = [
     of_pairs,
+    of_losses,
     of_far_exponents,
     of_zeros,
     of_carries,
@@ -262,23 +293,31 @@ def packed(operand):
 
 
 def record(case):
-    return bytes([NUMBERS[case.kind], case.up]) + packed(case.x) + packed(case.y)
+    first, second = case.lost
+    return bytes([NUMBERS[case.kind], case.up + 2 * first + 4 * second]) + packed(case.x) + packed(case.y)
 
 
 def shown(x):
     return str(tuple(x)) if isinstance(x, Scaled) else str(x)
 
 
+# The kinds of the cases, each with whether something was lost.
+met = set()
+
+
 def run(folder, cases):
     """Runs the cases. Gives the index of the first one that differs, with a text on it, or None."""
-    lines = [drivers.line(expected(case)) for case in cases]
+    due = [expected(case) for case in cases]
+    met.update((case.kind, lost) for case, (_, _, lost) in zip(cases, due))
+    lines = list(map(drivers.line, due))
     ways = scratch.run(folder, b"".join(map(record, cases)), "".join(lines))
     if not ways:
         return None
     first, text = scratch.report(ways, FIELDS, lines)
     case = cases[first]
     direction = [" D", " U"][case.up] if KINDS[case.kind].directed else ""
-    return first, "%s%s %s %s\n%s" % (case.kind, direction, shown(case.x), shown(case.y), text)
+    before = ", lost before: %s" % (case.lost,) if any(case.lost) else ""
+    return first, "%s%s %s %s%s\n%s" % (case.kind, direction, shown(case.x), shown(case.y), before, text)
 
 
 def main():
@@ -286,6 +325,9 @@ def main():
     print("operations: seed %d" % options.seed)
     cases = all_cases(options.seed)
     scratch.compare("operations", options.root, drivers.OPERATIONS, cases, BATCH, run)
+    unmet = {(name, lost) for name, kind in KINDS.items() if kind.directed for lost in (0, 1)} - met
+    if unmet:
+        sys.exit("operations: no case of %s" % sorted(unmet))
     print("operations: %d cases agree" % len(cases))
 
 

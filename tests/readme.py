@@ -49,7 +49,7 @@ def of_c(lines):
         due = [
             f"{records.decimal_text(False, read.lower)} to {records.decimal_text(True, read.upper)}, {class_}",
             f"about {as_float(read.lower):.9g} to {as_float(read.upper):.9g}",
-            "object 27386 at minute 642",
+            f"object 27386 at minute 642, {read.exact} of 55 terms exact",
         ]
         main = "\n".join(code).replace(braced(TEST_1), braced(encounter))
         checks.check(braced(encounter) in main, "commands", f"no encounter {encounter} in the lines of C")

@@ -110,6 +110,8 @@ def line(record, answer):
         words += [decimal_text(False, answer.lower), decimal_text(True, answer.upper)]
         # Request #104: "a read answers both", the object number and the time.
         words += [answer.object, answer.time]
+        # Request #105: "A read then answers the count of leading terms".
+        words += [answer.exact]
     return " ".join(map(str, words)) + "\n"
 
 
@@ -128,7 +130,7 @@ def printed(line):
         return Answer(int(rest[0]))
     if said == "read":
         N, ml, el, mh, eh = map(int, rest[:5])
-        return Answer(0, N, (ml, el), (mh, eh), rest[5], *map(int, rest[8:10]))
+        return Answer(0, N, (ml, el), (mh, eh), rest[5], *map(int, rest[8:11]))
     return Answer(N=int(rest[0]))
 
 

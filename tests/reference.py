@@ -1,14 +1,15 @@
-"""The rounded steps, the session and the calls of document 01, as requests #101 to #104 change them.
+"""The rounded steps, the session and the calls of document 01, as requests #101 to #105 change them.
 
-A scaled number is a pair (m, e), as in rounded.py. records.py has the script and its listing.
+A number of the steps is a triple (m, e, lost), as in rounded.py: so each number's way is what the steps say. An end is
+a pair (m, e). records.py has the script and its listing.
 """
 
 import itertools
 from dataclasses import dataclass, field
 from typing import NamedTuple
 
-from rounded import DOWN, UP, above, at_least, doubled, halved
-from scaled import ONE, ZERO
+import scaled
+from rounded import DOWN, ONE, UP, ZERO, above, at_least, doubled, halved
 
 # Document 01's numbers. The largest R, sx, sy and miss, in centimetres:
 LARGEST = 10_000_000
@@ -99,10 +100,11 @@ def exponential(r, t):
 
 
 def advance(r, side, N, count):
-    """The side from order N to order N + count."""
+    """The side from order N to order N + count. Gives the terms c(N) to c(N+count−1)."""
     _, product, plus, over, _ = r
     u, h, X, Y = side.u, side.h, side.X, side.Y
     total, c, p, v, y = side.sum, side.c, side.p, side.v, side.y
+    terms = []
     for n in range(N, N + count):
         # The document's n of c(n+1) is n − 1 here: p, v, y and c are those at n − 1.
         c = over(
@@ -113,7 +115,23 @@ def advance(r, side, N, count):
         v = plus(c, over(product(h, v), n + 1))
         y = plus(v, over(product(h, y), n + 1))
         total = plus(total, c)
+        terms.append(c)
     side.sum, side.c, side.p, side.v, side.y = total, c, p, v, y
+    return terms
+
+
+# Request #105: "the count of leading terms, of the N summed, on whose way, on either side, nothing was lost."
+def exact_terms(lower, upper):
+    """How many of these terms of both sides have lost nothing on either side.
+
+    A term's way is a part of the next one's. So no term after a lost one is counted, and these are the leading ones.
+    """
+    return sum(not (c[2] or C[2]) for c, C in zip(lower, upper))
+
+
+def next_is_formed_of(side):
+    """The numbers that the next term is formed of."""
+    return side.u, side.h, side.X, side.Y, side.c, side.p, side.v, side.y
 
 
 # The session and the calls.
@@ -123,12 +141,14 @@ def advance(r, side, N, count):
 class Answer(NamedTuple):
     refusal: int = 0
     N: int = 0
-    lower: tuple = ZERO
-    upper: tuple = ZERO
+    lower: tuple = scaled.ZERO
+    upper: tuple = scaled.ZERO
     class_name: str = "clear"
     # Request #104: "a read answers both".
     object: int = 0
     time: int = 0
+    # Request #105: "A read then answers the count".
+    exact: int = 0
 
 
 def class_of(lower, upper):
@@ -169,6 +189,14 @@ class Session:
     r256: tuple = ZERO
     M: tuple = ZERO
     d: tuple = ZERO
+    # Request #105: how many of the N terms are exact.
+    exact: int = 0
+
+    @property
+    def lossless(self):
+        """1 where nothing was lost, on either side, on the way to the numbers that the next term is formed of; else 0."""
+        numbers = *next_is_formed_of(self.lower), *next_is_formed_of(self.upper)
+        return int(self.N > 0 and not any(lost for _, _, lost in numbers))
 
     def begin(self, R, sx, sy, xm, ym):
         """The begin of kind 1."""
@@ -193,6 +221,7 @@ class Session:
         self.lower, self.upper = lower, upper
         self.M = UP.plus(UP.plus(UP.plus(upper.u, halved(upper.h)), upper.X), upper.Y)
         self.d = upper.c
+        self.exact = exact_terms([lower.c], [upper.c])
         self.N = 0
         self._bound(1)
         return Answer(N=self.N)
@@ -208,8 +237,8 @@ class Session:
             return Answer(21)
         if self.N + count > LARGEST_N:
             return Answer(22)
-        advance(DOWN, self.lower, self.N, count)
-        advance(UP, self.upper, self.N, count)
+        lower, upper = advance(DOWN, self.lower, self.N, count), advance(UP, self.upper, self.N, count)
+        self.exact += exact_terms(lower, upper)
         self._bound(count)
         return Answer(N=self.N)
 
@@ -220,7 +249,8 @@ class Session:
             return Answer(23)
         lower = DOWN.quotient(self.lower.sum, UP.plus(self.upper.exponential, doubled(self.r256)))
         upper = UP.quotient(UP.plus(self.upper.sum, self.tail_bound()), self.lower.exponential)
-        return Answer(0, self.N, lower, upper, class_of(lower, upper), self.object, self.time)
+        lower, upper = lower[:2], upper[:2]
+        return Answer(0, self.N, lower, upper, class_of(lower, upper), self.object, self.time, self.exact)
 
     def tail_bound(self):
         """The upper side's 2d(N)."""

@@ -54,7 +54,7 @@ def lines(encounter):
     (_, lower_sum), (_, upper_sum) = [side[EXPONENTIAL_CUT - 1] for side in made]
     r256, _ = made[1][EXPONENTIAL_CUT]
     taken = (ZERO, lower_sum), (r256, upper_sum)
-    return [drivers.line(number for side in both for x in side for number in x) for both in [*zip(*made), taken]]
+    return [drivers.line(number for side in both for x in side for number in x[:2]) for both in [*zip(*made), taken]]
 
 
 def compare(folder, batch):

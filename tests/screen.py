@@ -5,8 +5,8 @@
 
 The scripts: those of edges.py with their listings, those of examples/, the begins of edges.py, freshly drawn ones, one
 cut short at every length, wrong ones, the longest ones, and some that come in small pieces. Then reads and writes that
-fail, and the encounters of documents 000 and 003: the exact quotients are between the ends that `screen` prints, and
-its decimals are as near these ends as request #103 says.
+fail, and the encounters of documents 000 and 003: the exact quotients are between the ends that `screen` prints, its
+decimals are as near these ends as request #103 says, and it counts the exact terms.
 Exits with 1 where anything differs.
 """
 
@@ -288,6 +288,8 @@ def of_documents(name, encounter):
         check(ok, f"{name}: {what}")
     for read in answers:
         check(brackets.has_its_class(read), f"{name}: class at {read.N}")
+        exact, _ = exact_series.exact_terms(encounter, read.N)
+        check(read.exact == exact, f"{name}: {read.exact} exact terms at {read.N}")
         line = lines[2 * read.N - 1]
         check(brackets.has_its_decimals(read, printed_decimals(line)), f"{name}: decimals, {line}")
 

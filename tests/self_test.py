@@ -3,9 +3,10 @@
 
     python3 tests/self_test.py
 
-The arithmetic is compared with scaled.py, and every stored number with document 01's steps on scaled.py's numbers. The
-decimals are compared with request #103 by exact fractions, and its three promises are tested on them. The calls, the
-decimals and the listing are compared with the answers of edges.py.
+The arithmetic is compared with scaled.py, and every stored number with document 01's steps on scaled.py's numbers, with
+what is lost on its way. Wrong counts of exact terms are told from the right ones. The decimals are compared with
+request #103 by exact fractions, and its three promises are tested on them. The calls, the decimals and the listing are
+compared with the answers of edges.py.
 """
 
 import copy
@@ -13,6 +14,7 @@ import math
 import random
 import sys
 from fractions import Fraction
+from unittest import mock
 
 sys.dont_write_bytecode = True
 import brackets
@@ -23,10 +25,11 @@ import ends
 import options
 import orders
 import records
+import reference
 import rounded
 import scaled
 from checks import Checks
-from encounters import DOCUMENTS, FULL, HALF, SMALL, TEST_1
+from encounters import DOCUMENTS, FIVE, FULL, HALF, LOST_B, LOST_P, SMALL, TEST_1
 from records import MOST_COUNT
 from reference import EXPONENTIAL_CUT, LARGEST, LARGEST_N, Answer, Session, Side
 from scaled import LEAST, LIMIT, ZERO, Scaled
@@ -51,28 +54,37 @@ def whole(rng):
     return rng.choice(DIVISORS) if rng.random() < 0.3 else drawn.whole(rng, 1 << 100)
 
 
-def of_arithmetic(rng):
-    """Every operation is D or U by definition, and the answer of scaled.py."""
+def flagged(up, exact, *lost):
+    """D or U of an exact result by scaled.py, and whether something was lost: by these, or by the rounding itself."""
+    q, shift = exact
+    a = scaled.rounded(up, q, shift)
+    return *a, any(lost) or scaled.value(a) != q * scaled.power(shift)
 
-    def compare(name, up, answer, exact):
+
+def of_arithmetic(rng):
+    """Every operation is D or U by definition, and the answer of scaled.py; it says what was lost."""
+
+    def compare(name, up, answer, exact, *lost):
         q, shift = exact
-        what = f"{name}, up = {up}: {answer} for {exact}"
-        ok = answer == scaled.rounded(up, q, shift)
-        checks.check(ok and scaled.is_rounded(up, Scaled(*answer), q * scaled.power(shift)), "operations", what)
+        what = f"{name}, up = {up}: {answer} for {exact}, lost before: {lost}"
+        ok = answer == flagged(up, exact, *lost)
+        checks.check(ok and scaled.is_rounded(up, Scaled(*answer[:2]), q * scaled.power(shift)), "operations", what)
 
     for up, r in (False, rounded.DOWN), (True, rounded.UP):
         for _ in range(4000):
             a = number(rng, rng.randrange(-150, 150))
             b = number(rng, a.e + rng.choice([0, 1, -1, 31, -31, 32, -32, 33, -33, 64, rng.randrange(-80, 80)]))
             k, n = whole(rng), rng.choice([0, whole(rng), whole(rng), whole(rng)])
-            compare("product", up, r.product(a, b), scaled.exact_product(a, b))
-            compare("plus", up, r.plus(a, b), scaled.exact_sum(a, b))
-            compare("over", up, r.over(a, k), scaled.exact_over(a, k))
+            lost = [rng.random() < 0.3 for _ in range(2)]
+            x, y = (*a, lost[0]), (*b, lost[1])
+            compare("product", up, r.product(x, y), scaled.exact_product(a, b), *lost)
+            compare("plus", up, r.plus(x, y), scaled.exact_sum(a, b), *lost)
+            compare("over", up, r.over(x, k), scaled.exact_over(a, k), lost[0])
             if b != ZERO:
-                compare("quotient", up, r.quotient(a, b), scaled.exact_quotient(a, b))
+                compare("quotient", up, r.quotient(x, y), scaled.exact_quotient(a, b), *lost)
             compare("ratio", up, r.ratio(n, k), (Fraction(n, k), 0))
-            compare("halved", up, rounded.halved(a), scaled.exact_over(a, 2))
-            compare("doubled", up, rounded.doubled(a), scaled.exact_double(a))
+            compare("halved", up, rounded.halved(x), scaled.exact_over(a, 2), lost[0])
+            compare("doubled", up, rounded.doubled(x), scaled.exact_double(a), lost[0])
             value = scaled.value(a)
             checks.check(rounded.above(a, n) == (value > n), "operations", f"above: {a} {n}")
             checks.check(rounded.at_least(a, n, k) == (value >= Fraction(n, k)), "operations", f"at_least: {a} {n} {k}")
@@ -81,21 +93,28 @@ def of_arithmetic(rng):
 # The rounded steps.
 
 
+def of(exact, *numbers):
+    """An exact result of scaled.py on numbers with flags, and the flags."""
+    return exact(*(Scaled(*a[:2]) for a in numbers)), *(lost for _, _, lost in numbers)
+
+
 def steps(up, R, sx, sy, xm, ym, N):
-    """A side, r(256), M and d(N), in document 01's indices."""
-    halved = scaled.halved
+    """A side, r(256), M, d(N) and the terms c(0) to c(N−1), in document 01's indices."""
 
     def ratio(n, d):
-        return scaled.ratio(up, n, d)
+        return flagged(up, (Fraction(n, d), 0))
 
     def times(a, b):
-        return scaled.product(up, a, b)
+        return flagged(up, *of(scaled.exact_product, a, b))
 
     def plus(a, b):
-        return scaled.plus(up, a, b)
+        return flagged(up, *of(scaled.exact_sum, a, b))
 
     def over(a, k):
-        return scaled.over(up, a, k)
+        return flagged(up, *of(lambda x: scaled.exact_over(x, k), a))
+
+    def halved(a):
+        return over(a, 2)
 
     u, b = ratio(R**2, 2 * sy**2), ratio(R**2, 2 * sx**2)
     zx, zy = ratio(xm**2, 2 * sx**2), ratio(ym**2, 2 * sy**2)
@@ -113,7 +132,7 @@ def steps(up, R, sx, sy, xm, ym, N):
     total = c[0]
     for n in range(1, N):
         total = plus(total, c[n])
-    r = [scaled.ONE]
+    r = [(*scaled.ONE, False)]
     for k in range(1, EXPONENTIAL_CUT + 1):
         r.append(over(times(r[k - 1], t), k))
     exponential = r[0]
@@ -124,27 +143,53 @@ def steps(up, R, sx, sy, xm, ym, N):
     for n in range(1, N + 1):
         d.append(over(times(d[n - 1], M), n + 1))
     side = Side(u, h, X, Y, t, exponential, total, c[N - 1], p[N - 1], v[N - 1], y[N - 1])
-    return side, r[EXPONENTIAL_CUT], M, d[N]
+    return side, r[EXPONENTIAL_CUT], M, d[N], c[:N]
 
 
 def of_steps(rng):
-    """Every stored number, and both ends."""
+    """Every stored number with what was lost on its way, the count of exact terms, and both ends."""
     reads = 0
-    for inputs in HALF, FULL, SMALL, TEST_1, DOCUMENTS["CSM 1"], DOCUMENTS["CSM 2"], drawn.accepted(rng):
-        N = rng.randrange(1, 30)
+    tried = HALF, FULL, SMALL, TEST_1, FIVE, LOST_B, LOST_P, DOCUMENTS["CSM 1"], DOCUMENTS["CSM 2"], drawn.accepted(rng)
+    for inputs, N in [(inputs, N) for inputs in tried for N in (rng.randrange(1, 6), rng.randrange(6, 30))]:
         session = orders.at_order(inputs, N)
-        lower, _, _, _ = steps(False, *inputs, N)
-        upper, r256, M, d = steps(True, *inputs, N)
-        due = Session(*inputs, 0, 0, N, lower, upper, r256, M, d)
+        lower, _, _, _, terms = steps(False, *inputs, N)
+        upper, r256, M, d, upper_terms = steps(True, *inputs, N)
+        lost = [n for n in range(N) if terms[n][2] or upper_terms[n][2]]
+        due = Session(*inputs, 0, 0, N, lower, upper, r256, M, d, lost[0] if lost else N)
         checks.check(session == due, "sessions", f"the steps for {inputs} at {N}")
         answer = session.read()
         if answer.refusal == 0:
             reads += 1
-            below = scaled.plus(True, upper.exponential, scaled.doubled(r256))
-            above = scaled.plus(True, upper.sum, scaled.doubled(d))
-            ends = scaled.quotient(False, lower.sum, below), scaled.quotient(True, above, lower.exponential)
-            checks.check((answer.lower, answer.upper) == ends, "sessions", f"the ends for {inputs} at {N}")
+            total, exponential, bound = (Scaled(*a[:2]) for a in (lower.sum, lower.exponential, d))
+            below = scaled.plus(True, Scaled(*upper.exponential[:2]), scaled.doubled(Scaled(*r256[:2])))
+            above = scaled.plus(True, Scaled(*upper.sum[:2]), scaled.doubled(bound))
+            ends = scaled.quotient(False, total, below), scaled.quotient(True, above, exponential)
+            ok = (answer.lower, answer.upper) == ends and answer.exact == due.exact
+            checks.check(ok, "sessions", f"the read for {inputs} at {N}")
     checks.check(reads > 0, "sessions", "no read is accepted")
+
+
+# Wrong counts of exact terms.
+
+
+def forgets(r):
+    """The operations with a product that forgets what its factors lost where one of them is zero."""
+    return r._replace(product=lambda a, b: r.product(a, b) if a[0] and b[0] else rounded.ZERO)
+
+
+def of_wrong_counts():
+    """The cases of edges.py tell a wrong rule from the right one."""
+
+    def told(what, found):
+        checks.check(found != [tuple(due) for _, _, *due in cases], "wrong counts", what)
+
+    cases = [case for case in edges.EXACT_TERMS if case[1] < 10]
+    with mock.patch.multiple(reference, DOWN=forgets(rounded.DOWN), UP=forgets(rounded.UP)):
+        sessions = [orders.at_order(inputs, N) for inputs, N, *_ in cases]
+    told("a zero factor hides a loss", [(session.exact, session.lossless) for session in sessions])
+    sessions = [[orders.at_order(inputs, n) for n in range(1, N + 1)] for inputs, N, *_ in cases]
+    # The terms whose p, v and y are exact too.
+    told("a lost p counts as a lost c", [(sum(s.lossless for s in one), one[-1].lossless) for one in sessions])
 
 
 # The decimals.
@@ -203,7 +248,7 @@ def of_least_end():
     """
     session = orders.begun(FULL)
     above = rounded.UP.plus(session.upper.exponential, rounded.doubled(session.r256))
-    least = Scaled(*rounded.DOWN.quotient(rounded.DOWN.ratio(1, 2 * LARGEST**2), above))
+    least = Scaled(*rounded.DOWN.quotient(rounded.DOWN.ratio(1, 2 * LARGEST**2), above)[:2])
     found = [decimals.text(decimals.decimal(up, least)) for up in (False, True)]
     ok = scaled.value(least) > Fraction(8, 10**43) and found == ["8.019e-43", "8.020e-43"]
     checks.check(ok, "decimals", f"no lower end is below {least}: {found}")
@@ -296,11 +341,11 @@ def of_calls(rng):
     call(session.add(LARGEST_N) == Answer(22) and session == kept, "22")
     call(session.add(0) == Answer(N=1) and session == kept, "add 0")
     call(session.read().refusal == 0 and session == kept, "a read keeps the session")
-    for _ in range(20):
-        inputs = drawn.accepted(rng)
+    for inputs in [drawn.accepted(rng) for _ in range(20)] + [drawn.with_exact_terms(rng) for _ in range(60)] + [FIVE]:
         pieces = orders.begun(inputs)
-        for count in 1, 0, 37, 62:
+        for count in 1, 0, 2, LARGEST_N, 1, 1, 33, 62:
             pieces.add(count)
+            pieces.begin(*edges.REFUSED[0])
         call(pieces == orders.at_order(inputs, 101) and pieces.N == 101, f"adds in pieces {inputs}")
 
 
@@ -326,6 +371,7 @@ def main():
     rng = random.Random(options.SEED)
     of_arithmetic(rng)
     of_steps(rng)
+    of_wrong_counts()
     of_decimals(rng)
     of_calls(rng)
     of_scripts()

@@ -34,11 +34,15 @@ from encounters import (
     CLEAR_THEN_OPEN,
     DOCUMENTS,
     EDGES,
+    FIVE,
     FULL,
     HALF,
     LARGE,
+    LOST_B,
+    LOST_P,
     SMALL,
     THIN,
+    THIRDS,
     WIDE,
 )
 from records import KINDS, MOST_COUNT
@@ -226,6 +230,21 @@ def at_classes(rng):
     yield [begin(*CLEAR_THEN_OPEN), add(26), READ, add(1), READ]
 
 
+def of_exact_terms(rng):
+    """Adds up to the first loss, up to just before it and across it, in one piece and in more, with others between."""
+    for inputs, N, *_ in edges.EXACT_TERMS:
+        if N < 10:
+            yield [begin(*inputs), add(N - 1), READ, add(0), add(1), READ]
+    tried = [HALF, FIVE, LOST_B, LOST_P, THIRDS] + [drawn.with_exact_terms(rng) for _ in range(20)]
+    for inputs in tried:
+        yield [drawn_begin(rng, inputs), *[add(1), READ] * 6]
+        between = [add(0), READ, rng.choice(REFUSED), add(LARGEST_N)]
+        counts = rng.choices((0, 1, 1, 2, 3, 7), k=5)
+        yield [begin(*inputs), *(call for count in counts for call in (add(count), *rng.sample(between, 2))), READ]
+    # A begin after another encounter starts over.
+    yield [call for inputs in tried[:5] * 2 for call in (begin(*inputs), READ, add(3))]
+
+
 def of_documents(rng):
     for inputs in [*DOCUMENTS.values(), *EDGES.values()]:
         n = orders.least(inputs) if orders.begun(inputs) else 0
@@ -264,6 +283,7 @@ SHORT = [
     at_zeros,
     at_test_23,
     at_classes,
+    of_exact_terms,
     of_documents,
     random_encounters,
     random_calls,
@@ -273,7 +293,7 @@ SHORT = [
 def to_largest(rng):
     """To the largest N in one add, in some, and one by one; then the adds that test 22 refuses."""
     last = [READ, add(0), add(1), add(MOST_COUNT), READ, REFUSED[0], READ, REFUSED[-1], READ]
-    for inputs in HALF, FULL, LARGE, WIDE, THIN, ALFANO_3, drawn.accepted(rng):
+    for inputs in HALF, FULL, FIVE, LARGE, WIDE, THIN, ALFANO_3, drawn.accepted(rng):
         first = [begin_conjunction(*inputs, 25544, 1440), add(LARGEST_N), add(MOST_COUNT), add(LARGEST_N - 1)]
         yield [*first, *last, begin(*SMALL), READ]
     yield [begin(*SMALL), add(LARGEST_N - 2), add(2), add(1), *last]
@@ -307,8 +327,10 @@ LONG = [to_largest, at_far_test_23, more_random_calls]
 
 # The run.
 
-# About the interpreter's steps for a call and its line, for what an accepted begin does, and for a term.
-CALL_STEPS, BEGIN_STEPS, TERM_STEPS = 16_000, 220_000, 5_500
+# About the interpreter's steps for a call and its line, for what an accepted begin does, and for a term; and how many more
+# for one of the first terms, before the first loss.
+CALL_STEPS, BEGIN_STEPS, TERM_STEPS, FIRST_STEPS = 18_000, 220_000, 5_500, 7_500
+FIRST_TERMS = 6
 RUN_STEPS = scratch.MOST_STEPS * 95 // 100
 
 
@@ -317,7 +339,10 @@ def steps(one):
         return CALL_STEPS
     if one.call.kind in BEGINS:
         return CALL_STEPS + BEGIN_STEPS
-    return CALL_STEPS + (TERM_STEPS * one.call.inputs[0] if one.call.kind == "add" else 0)
+    if one.call.kind != "add":
+        return CALL_STEPS
+    (count,) = one.call.inputs
+    return CALL_STEPS + TERM_STEPS * count + FIRST_STEPS * min(count, FIRST_TERMS)
 
 
 def runs(sequences, most, size):

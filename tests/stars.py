@@ -121,7 +121,8 @@ INFIX = {
 
 def field(x, name):
     x = x[name] if isinstance(x, dict) else getattr(x, name)
-    return pair(x) if isinstance(x, tuple) and len(x) == 2 else x
+    # A number of the steps is a triple, an end a pair.
+    return pair(x) if isinstance(x, tuple) and len(x) in (2, 3) else x
 
 
 def applied(tokens):

@@ -24,7 +24,7 @@ import orders
 import records
 import scaled
 from checks import Checks
-from encounters import CLEAR_THEN_OPEN, DOCUMENTS, EDGES, SMALL, TEST_1, THIN
+from encounters import CLEAR_THEN_OPEN, DOCUMENTS, EDGES, HALF, SMALL, TEST_1, THIN
 from exact_series import Encounter
 from markdown import README, blocks, section
 from options import ROOT
@@ -126,6 +126,9 @@ def of_decimals():
 
 # The examples.
 
+# The one whose table has the exact terms.
+COUNTED = "where-rounding-starts"
+
 
 def said(record):
     """A record in the words of the table."""
@@ -135,8 +138,11 @@ def said(record):
     return " ".join([record.kind.call, *map(str, record.inputs)])
 
 
-def rows(script, listing):
-    """The rows of the table: offset, record, order and answer of each line of the listing."""
+def rows(script, listing, counted):
+    """The rows of the table: offset, record, order and answer of each line of the listing.
+
+    Where they are counted, the exact terms too.
+    """
     order = "none"
     for record, line in zip(records.records(script), listing.splitlines(), strict=True):
         answer = records.printed(line)
@@ -149,7 +155,8 @@ def rows(script, listing):
         else:
             order, said_of_it = answer.N, word
         text = f"a byte {script[record.position]}" if record.refusal else said(record)
-        yield f"| {line.split()[0]} | {text} | {order} | {said_of_it} |"
+        more = f" {answer.exact} |" if word == "read" else " |"
+        yield f"| {line.split()[0]} | {text} | {order} | {said_of_it} |{more if counted else ''}"
 
 
 def of_examples():
@@ -159,7 +166,10 @@ def of_examples():
     for stem in stems:
         text = (EXAMPLES / f"{stem}.md").read_text()
         script, listing = (EXAMPLES / f"{stem}.script").read_bytes(), (EXAMPLES / f"{stem}.listing").read_text()
-        due = ["| Offset | Record | Order N | Answer |", "|---|---|---|---|", *rows(script, listing)]
+        counted = stem == COUNTED
+        head = ["| Offset | Record | Order N | Answer |", "|---|---|---|---|"]
+        head = [f"{line}{more}" for line, more in zip(head, (" Exact terms |", "---|"))] if counted else head
+        due = [*head, *rows(script, listing, counted)]
         same("examples", stem, [line for line in text.splitlines() if line.startswith("|")], due)
         closed += of_orders(stem, text, script)
         of_titles(f"examples/{stem}.md", text)
@@ -194,7 +204,7 @@ def of_readme():
     same("README", "the fields of the line", fields and " ".join(fields), line[0])
     shift = (EXAMPLES / "shift.listing").read_text()
     for end in re.findall(r"`\.\. (.+?)`, which is object (\d+) at minute (\d+)", section("A line of a listing")) or [[]]:
-        ok = len(end) == 3 and end[0].endswith(" ".join(end[1:])) and f" {end[0]}\n" in shift
+        ok = len(end) == 3 and end[0].split()[-3:-1] == list(end[1:]) and f" {end[0]}\n" in shift
         checks.check(ok, "README", f"the end of a line with an object: {end}")
     kinds = re.findall(r"^\| (\d) \| [^|]+ \| (\d+) \|", section("A script, byte by byte"), re.M)
     due = [(str(kind), str(1 + of.body.size)) for kind, of in records.KINDS.items()]
@@ -252,7 +262,7 @@ def of_readme():
 
 
 def value(end):
-    return scaled.value(scaled.Scaled(*end))
+    return scaled.value(scaled.Scaled(*end[:2]))
 
 
 def of_figures():
@@ -264,6 +274,10 @@ def of_figures():
     same("README", "2t of Test 1", (2 * t, "Test 1 has 25.04." in README), (Fraction("25.04"), True))
     refusal = Session().begin(100, 100, 100, 1127, 0).refusal
     same("README", "11.27", (refusal, "a miss of 11.27 with a radius of 1 is refused" in README), (7, True))
+    text = "(10, 10, 10, 0, 0) has the terms 1/2, 1/8, 1/48, ..: the third is no such number, so the count is 1"
+    text += " at N = 1, and 2 from N = 2 on"
+    found = exact_series.by_definition(HALF, 3), [orders.at_order(HALF, N).read().exact for N in (1, 2, 3, LARGEST_N)]
+    same("README", text, (*found, text in README), ([Fraction(1, n) for n in (2, 8, 48)], [1, 2, 2, 2], True))
     # Half a centimetre more of R, in tenths of a centimetre: a probability does not depend on the unit.
     brackets_ = [orders.at_order(Encounter(R, 114250, 1410, 150, -3880), 950).read() for R in (15000, 15005)]
     found = [f"{float(value(end)):.5f}" for read in brackets_ for end in (read.lower, read.upper)]
@@ -303,13 +317,18 @@ def listed(stem):
 
 
 def of_printed_lines(stem):
-    """What a text says of each read: 'at byte N' and then what that line ends with, but for no object and no time."""
+    """What a text says of each read: 'at byte N' and then what that line ends with.
+
+    Of a line without an object, the object number and what stands behind it may be left out.
+    """
     text, lines = (EXAMPLES / f"{stem}.md").read_text(), listed(stem)
     said = re.findall(r"[Aa]t byte (\d+)[^`]*`([^`]*)`", text)
     reads = [offset for offset, line in lines.items() if line.split()[1] == "read"]
     same("examples", f"{stem}, the reads", [int(offset) for offset, _ in said], reads)
     for offset, words in said:
-        ends = lines[int(offset)].endswith((f" {words}", f" {words} 0 0"))
+        line = lines[int(offset)]
+        before, *both, _ = line.rsplit(" ", 3)
+        ends = line.endswith(f" {words}") or (both == ["0", "0"] and before.endswith(f" {words}"))
         checks.check(ends, "examples", f"{stem} at {offset}: {words}")
     return text, lines
 
@@ -322,6 +341,18 @@ def of_printed_examples():
     _, lines = of_printed_lines("refused-object")
     # 'all its numbers are those of the read before the refusal'
     same("examples", "refused-object, the refusal", lines[62].split()[1:], lines[32].split()[1:])
+    text, _ = of_printed_lines(COUNTED)
+    begun = encounters_of((EXAMPLES / f"{COUNTED}.script").read_bytes())
+    terms = []
+    for n, over, under in re.findall(r"c\((\d)\) = (\d+)/(\d+)", text):
+        terms += [[]] if n == "0" else []
+        terms[-1].append(Fraction(int(over), int(under)))
+    due = [exact_series.by_definition(encounter, len(of_one)) for encounter, of_one in zip(begun, terms)]
+    same("examples", f"{COUNTED}, the terms", terms, due)
+    same("examples", f"{COUNTED}, the encounters", len(terms), len(begun))
+    counts = [session.exact for session in map(orders.begun, DOCUMENTS.values()) if session]
+    words = f"of the {len(counts)} of document 000, Table 3, that are not refused, {counts.count(0)} have no exact term"
+    checks.check(words in text, "examples", f"{COUNTED}: {words}")
     text, lines = of_printed_lines("shift")
     script = (EXAMPLES / "shift.script").read_bytes()
     same("examples", "shift, the bytes", blocks(text)[0][0].split(), script[:29].hex(" ").split())

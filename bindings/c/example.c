@@ -1,6 +1,6 @@
 /* Brackets of encounters from standard input, one a line: R sx sy xm ym N, or R sx sy xm ym N object time. Begins the encounter, with
  * the object number and the time of closest approach where the line has them, adds N - 1 terms, reads, and prints the three answers in the words of a
- * listing; after a read both ends once more as doubles, and with a refusal its condition.
+ * listing; after a read both ends once more as doubles, and in a line of its own where rounding starts; with a refusal its condition.
  *
  *     rt staticlib jinthuol
  *     gcc -std=c99 -I bindings/c bindings/c/example.c target/staticlib/libjinthuol.a -lm -o target/example
@@ -90,6 +90,16 @@ static void print_order(const char *word, jinthuol_answer a)
     }
 }
 
+/* Where rounding starts, in words. */
+static void print_exact_terms(jinthuol_answer a)
+{
+    if (a.exact_terms == a.N) {
+        printf("every term so far is exact\n");
+    } else {
+        printf("rounding starts at term %" PRIu32 " of %" PRIu32 "\n", a.exact_terms + 1, a.N);
+    }
+}
+
 static void print_read(jinthuol_answer a)
 {
     if (a.refusal != 0) {
@@ -100,10 +110,11 @@ static void print_read(jinthuol_answer a)
     printf(" %s", class_name(a.class_));
     print_decimal(false, a.lower);
     print_decimal(true, a.upper);
-    printf(" %" PRIu32 " %" PRIu32, a.object, a.time);
+    printf(" %" PRIu32 " %" PRIu32 " %" PRIu32, a.object, a.time, a.exact_terms);
     print_double(a.lower);
     print_double(a.upper);
     printf("\n");
+    print_exact_terms(a);
 }
 
 /* The numbers of a line, and the least and the largest that each may be. */

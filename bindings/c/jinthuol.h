@@ -4,7 +4,7 @@
  *     jinthuol_encounter test_1 = {500, 5000, 100, 1000, 0};    R, sx, sy, xm, ym
  *     jinthuol_begin(&session, test_1);                         N is 1
  *     jinthuol_add(&session, 54);                               N is 55
- *     jinthuol_answer answer = jinthuol_read(session);          both ends, the class, and object and time: 0 here
+ *     jinthuol_answer answer = jinthuol_read(session);          both ends, the class, object and time (0 here), exact_terms: 1
  *     jinthuol_to_decimal(false, answer.lower)                  7647 and 2: at least 7.647e-02
  *     jinthuol_to_decimal(true, answer.upper)                   7648 and 2: at most 7.648e-02
  *     jinthuol_conjunction conjunction = {test_1, 25544, 1440}; object 25544, at minute 1440
@@ -51,7 +51,7 @@ extern "C" {
 #endif
 
 /* One more with each change of a struct or a function of this header, or of what a function answers. */
-#define JINTHUOL_VERSION 4
+#define JINTHUOL_VERSION 5
 
 /* The five inputs, in whole centimetres: combined radius R, larger standard deviation sx, smaller sy, mean miss xm and ym, along the principal axes of
  * the covariance in the encounter plane. */
@@ -83,16 +83,18 @@ typedef struct {
 /* All that is kept of one encounter between calls. Only the functions below write it: each asks that its session came from jinthuol_empty and
  * then from these calls alone, and that nobody else writes it during the call. It is plain data: a copy of it is a session too. */
 typedef struct {
-    uint32_t words[58];
+    uint32_t words[60];
 } jinthuol_session;
 
 /* The class, by both ends and 1/10,000. Clear: the upper end is below it. Alert: the lower end is at least that. Open: neither, so this read does not
  * tell on which side the probability is; a read with some terms more may (README.md, 'A line of a listing'). */
 enum { JINTHUOL_CLEAR = 0, JINTHUOL_ALERT = 1, JINTHUOL_OPEN = 2 };
 
-/* The refusal's number, or 0; then the order N, both ends, the class, the object number and the time of closest approach. A refusal has zero in every other
- * field; an accepted begin or add has zero in all but N. So the fields after N mean something only in the answer of a read whose refusal is 0. There the object
- * number and the time are those of jinthuol_begin_conjunction, and both 0 where the encounter was begun by jinthuol_begin. */
+/* The refusal's number, or 0; then the order N, both ends, the class, the object number, the time of closest approach and the count of exact terms. A refusal has
+ * zero in every other field; an accepted begin or add has zero in all but N. So the fields after N mean something only in the answer of a read whose refusal is 0.
+ * There the object number and the time are those of jinthuol_begin_conjunction, and both 0 where the encounter was begun by jinthuol_begin. exact_terms is how many
+ * of the first terms, from 0 to N, are exact: on the way to them nothing was rounded off, on either side. It tells where rounding starts, not how much is lost by
+ * it: that is in the ends, which hold at every count, also at 0. */
 typedef struct {
     uint32_t refusal;
     uint32_t N;
@@ -101,6 +103,7 @@ typedef struct {
     uint32_t class_;
     uint32_t object;
     uint32_t time;
+    uint32_t exact_terms;
 } jinthuol_answer;
 
 /* The bytes of the buffer that are used, and whether they are the whole listing. */

@@ -15,7 +15,7 @@ Lengths are whole centimetres. A call gives an Answer:
     N = 55
     >>> answer = session.read()
     >>> print(answer)
-    N = 55: 2627622691 × 2^-35 to 2627623074 × 2^-35, alert, 7.647e-02 to 7.648e-02
+    N = 55: 2627622691 × 2^-35 to 2627623074 × 2^-35, alert, 7.647e-02 to 7.648e-02, exact terms: 1
     >>> print(*answer.decimals)
     7.647e-02 7.648e-02
     >>> answer.floats
@@ -31,10 +31,17 @@ these too:
     >>> print(session.begin_conjunction(conjunction), session.add(54))
     N = 1 N = 55
     >>> answer = session.read()
-    >>> print(answer)
-    N = 55: 2627622691 × 2^-35 to 2627623074 × 2^-35, alert, 7.647e-02 to 7.648e-02, object 25544 at minute 1440
+    >>> print(answer.class_name, *answer.decimals)
+    alert 7.647e-02 7.648e-02
     >>> answer.object, answer.time
     (25544, 1440)
+
+A read also answers how many of the first terms are exact: on the way to them nothing was rounded off, on either side:
+
+    >>> print(session.begin(jinthuol.Encounter(R=10, sx=10, sy=10, xm=0, ym=0)), session.add(2))
+    N = 1 N = 3
+    >>> session.read().exact_terms
+    2
 
 The library libjinthuol.a is in the folder that JINTHUOL_LIB_DIR names, else in target/staticlib of the repository,
 where `rt staticlib jinthuol` writes it. At the first import gcc links it into a shared object beside it,
@@ -54,7 +61,7 @@ from fractions import Fraction
 from typing import NamedTuple
 
 # JINTHUOL_VERSION of bindings/c/jinthuol.h.
-VERSION = 4
+VERSION = 5
 
 # The condition of each refusal. 1, 2 and 8 are in listings only.
 REFUSALS = {
@@ -186,10 +193,12 @@ class Scaled(Struct):
 
 
 class Answer(Struct):
-    """The refusal's number, or 0; then the order N, both ends, the class (0 clear, 1 alert, 2 open), object and time.
+    """The refusal's number, or 0; then the order N, both ends, the class, object and time, and exact_terms.
 
-    Only a read that is not refused has ends, a class, an object number and a time: both begins, add and every refusal
-    have zero there. The object number and the time are those of begin_conjunction, and both 0 after begin.
+    Only a read that is not refused has more than the first two: both begins, add and every refusal have zero there. The
+    class is 0 for clear, 1 for alert, 2 for open. The object number and the time are those of begin_conjunction, and
+    both 0 after begin. exact_terms is how many of the first terms, from 0 to N, are exact: on the way to them nothing
+    was rounded off, on either side. It tells where rounding starts; how much is lost by it is in the ends.
     """
 
     _fields_ = [
@@ -200,6 +209,7 @@ class Answer(Struct):
         ("class_", c_uint32),
         ("object", c_uint32),
         ("time", c_uint32),
+        ("exact_terms", c_uint32),
     ]
 
     @property
@@ -236,13 +246,14 @@ class Answer(Struct):
             return f"N = {self.N}"
         lower, upper = self.decimals
         of_object = f", object {self.object} at minute {self.time}" if self.object else ""
-        return f"N = {self.N}: {self.lower} to {self.upper}, {self.class_name}, {lower} to {upper}{of_object}"
+        ends = f"{self.lower} to {self.upper}, {self.class_name}, {lower} to {upper}"
+        return f"N = {self.N}: {ends}{of_object}, exact terms: {self.exact_terms}"
 
 
 class Kept(Struct):
     """What a session keeps. Only the library writes it."""
 
-    _fields_ = [("words", c_uint32 * 58)]
+    _fields_ = [("words", c_uint32 * 60)]
 
 
 class Listing(Struct):

@@ -62,16 +62,19 @@ pub struct Answer {
     pub object: u32,
     /// Its time of closest approach, in minutes from the epoch that the site chooses; 0 where `object` is 0.
     pub time: u32,
+    /// How many of the first terms, from 0 to `N`, are exact: on the way to them nothing was rounded off, on either
+    /// side. It tells where rounding starts; how much is lost by it is in the ends.
+    pub exact_terms: u32,
 }
 
 impl fmt::Display for Answer {
     fn fmt(&self, f: &mut fmt::Formatter<'_>) -> fmt::Result {
         write!(f, "N = {}: {} to {}, {}", self.N, self.lower, self.upper, self.class)?;
         write!(f, ", {} to {}", self.lower.decimal_down(), self.upper.decimal_up())?;
-        match self.object {
-            0 => Ok(()),
-            number => write!(f, ", object {number} at minute {}", self.time),
+        if self.object != 0 {
+            write!(f, ", object {} at minute {}", self.object, self.time)?;
         }
+        write!(f, ", exact terms: {}", self.exact_terms)
     }
 }
 

@@ -8,8 +8,8 @@ use crate::decimal::Decimal;
 use crate::script::Listing;
 use crate::session::{Conjunction, Encounter, Session};
 
-/// The refusal's number, or 0; then the order N, both ends, the class, the object number and the time. The class is a
-/// number here: an enum of Rust would trust the library to give no other number than its own.
+/// The refusal's number, or 0; then the order N, both ends, the class, the object number, the time and the count of exact
+/// terms. The class is a number here: an enum of Rust would trust the library to give no other number than its own.
 #[repr(C)]
 #[allow(non_snake_case)]
 pub struct Answer {
@@ -20,6 +20,7 @@ pub struct Answer {
     pub class: u32,
     pub object: u32,
     pub time: u32,
+    pub exact_terms: u32,
 }
 
 // `safe`: the types of these seven say all that they trust, but that the library has this crate's

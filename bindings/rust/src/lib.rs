@@ -12,7 +12,8 @@
 //! assert_eq!(refusal.to_string(), "refused 23: read: 2M above N + 2");
 //! assert_eq!(session.add(54), Ok(55));
 //! let answer = session.read()?;
-//! assert_eq!(answer.to_string(), "N = 55: 2627622691 × 2^-35 to 2627623074 × 2^-35, alert, 7.647e-02 to 7.648e-02");
+//! let ends = "2627622691 × 2^-35 to 2627623074 × 2^-35";
+//! assert_eq!(answer.to_string(), format!("N = 55: {ends}, alert, 7.647e-02 to 7.648e-02, exact terms: 1"));
 //! assert_eq!(answer.upper.decimal_up().to_string(), "7.648e-02");
 //! assert_eq!(answer.class, Class::Alert);
 //! assert_eq!(answer.lower.to_f64(), Some(0.07647388530313037));
@@ -30,14 +31,31 @@
 //! session.begin_conjunction(Conjunction { encounter, object: 25544, time: 1440 })?;
 //! let answer = session.read()?;
 //! assert_eq!((answer.object, answer.time), (25544, 1440));
-//! assert!(answer.to_string().ends_with("alert, 3.032e-01 to 4.549e-01, object 25544 at minute 1440"));
+//! let text = "alert, 3.032e-01 to 4.549e-01, object 25544 at minute 1440, exact terms: 1";
+//! assert!(answer.to_string().ends_with(text));
+//! # Ok::<(), Refusal>(())
+//! ```
+//!
+//! A read also answers how many of the first terms are exact: on the way to them nothing was rounded off, on either side.
+//!
+//! ```
+//! use jinthuol::{Encounter, Refusal, Session};
+//!
+//! let mut session = Session::empty();
+//! session.begin(Encounter { R: 10, sx: 10, sy: 10, xm: 0, ym: 0 })?;
+//! assert_eq!(session.read()?.exact_terms, 1);
+//! session.add(1)?;
+//! assert_eq!(session.read()?.exact_terms, 2);
+//! // The third term is 1/48, which is no scaled number.
+//! session.add(1)?;
+//! assert_eq!(session.read()?.exact_terms, 2);
 //! # Ok::<(), Refusal>(())
 //! ```
 //!
 //! A session cannot be put together from numbers:
 //!
 //! ```compile_fail,E0451
-//! let session = jinthuol::Session { words: [0; 58] };
+//! let session = jinthuol::Session { words: [0; 60] };
 //! ```
 #![deny(missing_docs, unsafe_code, unsafe_op_in_unsafe_fn)]
 
@@ -61,7 +79,7 @@ pub use script::{run, run_into, Listing};
 pub use session::{Conjunction, Encounter, Session};
 
 /// The version of the library's functions that this crate is for: JINTHUOL_VERSION of bindings/c/jinthuol.h.
-pub const VERSION: u32 = 4;
+pub const VERSION: u32 = 5;
 
 /// The version of the library that this crate was linked with. Where it is not [`VERSION`], [`Session::empty`],
 /// [`run`], [`run_into`] and the decimals of a [`Scaled`] panic: the structs may be others.

@@ -9,7 +9,7 @@ use crate::refusal::Refusal;
 #[repr(C)]
 #[derive(Clone, Debug, PartialEq, Eq)]
 pub struct Session {
-    words: [u32; 58],
+    words: [u32; 60],
 }
 
 impl Session {
@@ -53,6 +53,7 @@ impl Session {
             },
             object: answer.object,
             time: answer.time,
+            exact_terms: answer.exact_terms,
         })
     }
 }

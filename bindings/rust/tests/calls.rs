@@ -32,14 +32,15 @@ fn at_object(encounter: Encounter, N: u16, object: u32, time: u32) -> Session {
     session
 }
 
+/// Of an encounter without an object, with one exact term.
 fn answer(N: u32, lower: (u32, i32), upper: (u32, i32), class: Class) -> Answer {
     let scaled = |(m, e)| Scaled { m, e };
-    Answer { N, lower: scaled(lower), upper: scaled(upper), class, object: 0, time: 0 }
+    Answer { N, lower: scaled(lower), upper: scaled(upper), class, object: 0, time: 0, exact_terms: 1 }
 }
 
 #[test]
 fn sizes() {
-    assert_eq!((size_of::<Session>(), align_of::<Session>()), (232, 4));
+    assert_eq!((size_of::<Session>(), align_of::<Session>()), (240, 4));
     assert_eq!((size_of::<Conjunction>(), align_of::<Conjunction>()), (28, 4));
 }
 
@@ -111,6 +112,35 @@ fn objects() {
         assert_eq!(session.begin(HALF), Ok(1));
         assert_eq!(session.read().map(|a| (a.object, a.time)), Ok((0, 0)));
     }
+}
+
+/// Request #105: the count of exact terms at each order, however the terms are added.
+#[test]
+fn exact_terms() {
+    let five = of(3, 4, 3, 8, 0);
+    for (encounter, counts) in [
+        (HALF, [1, 2, 2, 2, 2, 2]),
+        (five, [1, 2, 3, 4, 5, 5]),
+        // c(0) is rounded; b is rounded, though xm is 0; p(1) is rounded, and c(1) is not.
+        (of(1, 3, 1, 0, 0), [0; 6]),
+        (of(131071, 131072, 131071, 0, 0), [1; 6]),
+        (of(255, 256, 256, 0, 0), [1, 2, 2, 2, 2, 2]),
+    ] {
+        let mut session = at(encounter, 1);
+        for (N, due) in (1..).zip(counts) {
+            assert_eq!(session.read().map(|a| a.exact_terms), Ok(due), "{encounter:?} at {N}");
+            assert_eq!(session, at(encounter, N), "{encounter:?} at {N}");
+            assert_eq!(session.add(0), Ok(N.into()));
+            assert_eq!(session.add(u16::MAX), Err(Refusal(22)));
+            assert_eq!(session.add(1), Ok(u32::from(N) + 1));
+        }
+        assert_eq!(at(encounter, 4096).read().map(|a| a.exact_terms), Ok(counts[5]), "{encounter:?}");
+    }
+    let mut session = at(five, 6);
+    assert_eq!(session.begin(of(0, 1, 1, 0, 0)), Err(Refusal(3)));
+    assert_eq!(session.read().map(|a| a.exact_terms), Ok(5));
+    assert_eq!(session.begin(HALF), Ok(1));
+    assert_eq!(session.read().map(|a| a.exact_terms), Ok(1));
 }
 
 #[test]
@@ -206,10 +236,10 @@ fn refusals_in_words() {
 
 #[test]
 fn answers_in_words() {
-    let text = "N = 1: 2605029163 × 2^-33 to 3907544026 × 2^-33, alert, 3.032e-01 to 4.549e-01";
-    assert_eq!(at(HALF, 1).read().unwrap().to_string(), text);
-    let read = at_object(HALF, 1, 25544, 1440).read().unwrap();
-    assert_eq!(read.to_string(), format!("{text}, object 25544 at minute 1440"));
+    let text = "N = 3: 3364829335 × 2^-33 to 3391965302 × 2^-33, alert, 3.917e-01 to 3.949e-01";
+    assert_eq!(at(HALF, 3).read().unwrap().to_string(), format!("{text}, exact terms: 2"));
+    let read = at_object(HALF, 3, 25544, 1440).read().unwrap();
+    assert_eq!(read.to_string(), format!("{text}, object 25544 at minute 1440, exact terms: 2"));
     assert_eq!((Scaled { m: 0, e: 0 }).to_string(), "0");
     assert_eq!(format!("{:>6}|{}|{}", Class::Clear, Class::Alert, Class::Open), " clear|alert|open");
 }

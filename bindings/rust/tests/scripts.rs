@@ -58,7 +58,7 @@ fn by_calls(script: &[u8]) -> String {
             Some(Some(_)) => session.read().map(|a| {
                 let ends = format!("{} {} {} {}", a.lower.m, a.lower.e, a.upper.m, a.upper.e);
                 let decimals = format!("{} {}", a.lower.decimal_down(), a.upper.decimal_up());
-                format!("read {} {ends} {} {decimals} {} {}", a.N, a.class, a.object, a.time)
+                format!("read {} {ends} {} {decimals} {} {} {}", a.N, a.class, a.object, a.time, a.exact_terms)
             }),
         };
         let last = matches!(answer, Err(Refusal(1 | 2)));

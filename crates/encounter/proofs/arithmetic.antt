@@ -3,3 +3,4 @@ pub mod LongDivision
 pub mod Fitting
 pub mod WholeParts
 pub mod Reciprocals
+pub mod Results

@@ -4,9 +4,11 @@ pub mod Conjunctions
 pub mod Requests
 pub mod Stars
 pub mod Invariant
+pub mod Adding
 pub mod Lending
 pub mod Rows
 pub mod Claiming
 pub mod AcceptedReads
 pub mod Classes
 pub mod PrintedEnds
+pub mod ExactCount

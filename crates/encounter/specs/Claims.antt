@@ -9,9 +9,11 @@ use Rattle.exact.specs.declared.Scaled.{Scaled}
 use Rattle.exact.specs.Fraction.{Frac, _≼_, _≈_, _⊗_, _÷_, whole, sum}
 use Rattle.exact.specs.Numbers.{exponential-cut}
 use Rattle.exact.specs.Private.Round.{round}
-use Rattle.exact.specs.Scaled.{IsRound, value, half, double}
+use Rattle.exact.specs.Scaled.{IsRound, value, half, double, lost}
+use Rattle.exact.specs.Losses.{traced-letters, traced-terms, letter-numbers, term-numbers, term-lost, either-lost}
 use Rattle.exact.specs.Series.{mirrored, u, g, h, X, Y, t, F, a₀, a, c, series, exponential, quotient}
-use Rattle.exact.specs.Steps.{same, letters, terms, powers, bound, alert, clear}
+use Rattle.exact.specs.Arithmetic.{unrounded}
+use Rattle.exact.specs.Steps.{letters, terms, powers, bound, side-letters, side-terms, alert, clear}
 use Rattle.exact.specs.declared.Decimal.{Decimal}
 use Rattle.exact.specs.Decimals.{Printed, Found, Near}
 use Rattle.encounter.specs.declared.state.Session.{Session}
@@ -24,12 +26,12 @@ use Rattle.encounter.specs.Stars.{stars, All}
 
 -- "Document 001, section III, in these scaled letters": the rounded steps, with no rounding, are the exact series
 pub record Unrounded (E : Encounter) : Type 0 where
-  pub letters-are : letters same same E ≡ record { u = u E; h = h E; X = X E; Y = Y E; t = t E }
-  pub terms-are : (n : ℕ) → terms same same (letters same same E) (a₀ E) n .c ≈ c E n
-  pub sums-are : (n : ℕ) → terms same same (letters same same E) (a₀ E) n .sum ≈ series E (suc n)
-  pub exponentials-are : (k : ℕ) → powers same same (whole 1) (t E) k .sum ≈ exponential E (suc k)
+  pub letters-are : letters unrounded E ≡ record { u = u E; h = h E; X = X E; Y = Y E; t = t E }
+  pub terms-are : (n : ℕ) → terms unrounded (letters unrounded E) (a₀ E) n .c ≈ c E n
+  pub sums-are : (n : ℕ) → terms unrounded (letters unrounded E) (a₀ E) n .sum ≈ series E (suc n)
+  pub exponentials-are : (k : ℕ) → powers unrounded (whole 1) (t E) k .sum ≈ exponential E (suc k)
   -- M is F(0)
-  pub bound-is : bound same same (letters same same E) ≈ F E 0
+  pub bound-is : bound unrounded (letters unrounded E) ≈ F E 0
 
 -- a conjunction with the miss xm on the other side
 abbrev pub mirrored-conjunction : Conjunction → Conjunction
@@ -66,6 +68,15 @@ pub record PrintedEnd (up : Bool) (x : Scaled) (d : Decimal) : Type 0 where
   -- d has four significant digits and, where x is below 1, is off by at most two in the last
   pub near : Near x d
 
+-- request #105, of the count k that a read at order N answers
+pub record CountedTerms (E : Encounter) (N k : ℕ) : Type 0 where
+  pub at-most : k ≤ N
+  -- on the way of each term counted nothing was lost, so on both sides it is the exact series' own
+  pub nothing-lost : (n : ℕ) → n < k → either-lost E n ≡ false
+  pub exact : (n : ℕ) → n < k → (up : Bool) → value (side-terms up E n .c) ≈ c E n
+  -- on the way of each other term something was lost
+  pub others-lost : (n : ℕ) → k ≤ n → n < N → either-lost E n ≡ true
+
 pub record Claims : Type 0 where
   -- "D(q) is the greatest scaled number not above [..] q. U(q) is the least one not below it": round computes them, and there is no other
   pub rounding : (up : Bool) (bits : ℕ) (q : Frac) → 0 < bits → IsRound up bits q (round up bits q) × ((x : Scaled) → IsRound up bits q x → x ≡ round up bits q)
@@ -99,3 +110,11 @@ pub record Claims : Type 0 where
       PrintedEnd false (call reads s .answer .lower) (lower-decimal (call reads s .answer)) × PrintedEnd true (call reads s .answer .upper) (upper-decimal (call reads s .answer))
   -- request #104: a read that answers no object number, 0, answers no time, 0
   pub no-object-no-time : {s : Session} → Readable s → call reads s .answer .object ≡ 0 → call reads s .answer .time ≡ 0
+  -- request #105: a rounding says that it lost nothing just where its value is the fraction's
+  pub losses : (up : Bool) (bits : ℕ) (q : Frac) → (lost up bits q ≡ false → value (round up bits q) ≈ q) × (value (round up bits q) ≈ q → lost up bits q ≡ false)
+  -- the numbers with losses beside them are the side's
+  pub traced-numbers : (up : Bool) (E : Encounter) → (letter-numbers (traced-letters up E) ≡ side-letters up E) × ((n : ℕ) → term-numbers (traced-terms up E n) ≡ side-terms up E n)
+  -- what is lost on the way of a term on one side is lost on the other
+  pub same-ways : (E : Encounter) (n : ℕ) → term-lost false E n ≡ term-lost true E n
+  -- the count of every accepted read
+  pub counted : {s : Session} → Readable s → CountedTerms (s .encounter) (s .N) (call reads s .answer .exact)

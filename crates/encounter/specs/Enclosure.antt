@@ -9,6 +9,7 @@ use Rattle.exact.specs.Fraction.{_≼_, _⊗_, _↑_, _over_}
 use Rattle.exact.specs.Numbers.{exponential-cut}
 use Rattle.exact.specs.Scaled.{value}
 use Rattle.exact.specs.Series.{quotient}
+use Rattle.exact.specs.Losses.{exact-terms}
 use Rattle.exact.specs.Steps.{sum-to, tail-bound, lower-end, upper-end}
 use Rattle.exact.specs.Records.{Request, read}
 use Rattle.exact.specs.Refusals.{History, no-encounter, encounter-at, refusal}
@@ -55,11 +56,11 @@ pub record Claim (p : Place) : Type 0 where
   -- demands 1 and 2: the whole answer and every stored number are those that the history tells
   pub answer : p .answer ≡ outcome (p .history) (p .request) (session-of (p .history)) .answer
   pub session : p .session ≡ session-of (follow (p .history) (p .request))
-  -- demand 3: "for every read accepted in it"; request #104: with its object and time
+  -- demand 3: "for every read accepted in it"; request #104: with its object and time; request #105: with its count of exact terms
   pub enclosed :
       p .request ≡ read →
       refusal (p .history) read ≡ 0 →
-      (C : Conjunction) × (N : ℕ) × (p .history ≡ encounter-at C N) × Encloses (C .encounter) N (p .answer) × Named C (p .answer)
+      (C : Conjunction) × (N : ℕ) × (p .history ≡ encounter-at C N) × Encloses (C .encounter) N (p .answer) × Named C (p .answer) × (p .answer .exact ≡ exact-terms (C .encounter) N)
 
 abbrev pub Every : (Place → Type 0) → List Place → Type 0
 Every P [] = Unit {0}

@@ -89,6 +89,10 @@ stars =
     ∷ fraction-is (tail-bound E₁ 1) (1 over 4)
     ∷ fraction-is (whole 2 ⊗ value (M E₁)) (whole 1)
     ∷ number-is (call reads (state (no-object E₁) 1) .answer .refusal) 0
+    -- request #105: "For (10, 10, 10, 0, 0) at N = 3 it is 2."; 1 at N = 1 and 2 at N = 2
+    ∷ number-is (call reads (state (no-object E₁) 1) .answer .exact) 1
+    ∷ number-is (call reads (state (no-object E₁) 2) .answer .exact) 2
+    ∷ number-is (call reads (state (no-object E₁) 3) .answer .exact) 2
     -- ★ (8, 1, 1, 8, 0): t = 64, accepted; M = 1,056.
     ∷ fraction-is (t E₂) (whole 64)
     ∷ fraction-is (value (side-letters false E₂ .t)) (whole 64)

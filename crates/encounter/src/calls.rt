@@ -1,6 +1,11 @@
 // begin, with and without object and time, add and read, by value.
 ghost use mathlib.Core.Path.{_≡_};
-ghost use Rattle.encounter.specs.Session.{empty as empty-session};
+ghost use mathlib.Core.Bool.{_&&_};
+ghost use Prim.Native.Nat.{suc, _+_, _≤_, _<_};
+ghost use lib.Dec.{ltb};
+ghost use Rattle.exact.specs.Numbers.{largest-order};
+ghost use Rattle.encounter.specs.Session.{empty as empty-session, state, conjunction-of};
+ghost use Rattle.encounter.specs.Private.Held.{Begun, with-losses};
 ghost use Rattle.encounter.specs.Calls.{begins, begins-conjunction, adds, reads, call, Reached};
 ghost use Rattle.encounter.specs.Enclosure.{Demands};
 ghost use Rattle.encounter.specs.Claims.{Claims};
@@ -21,6 +26,7 @@ use crate::calls::ends::lower_end;
 use crate::calls::ends::may_read;
 use crate::calls::ends::upper_end;
 use crate::calls::opening::opened;
+use crate::calls::opening::unless;
 use crate::calls::tests::passes_test_7;
 use crate::calls::tests::test_inputs;
 use crate::calls::tests::test_object;
@@ -31,6 +37,7 @@ use crate::state::Session;
 use crate::state::Side;
 use crate::state::Terms;
 use crate::steps::letters::letters;
+use crate::steps::losses::next_losses;
 use crate::steps::progress::advance;
 use exact::Conjunction;
 use exact::Encounter;
@@ -77,6 +84,8 @@ impl Session {
             r256: zero,
             M: zero,
             d: zero,
+            exact: 0,
+            lossless: 0,
         }
     }
 }
@@ -91,7 +100,7 @@ pub fn begin(s: Session, E: Encounter) -> Called
         return refused_on(refusal, s);
     }
     let above = letters(true, E);
-    if passes_test_7(above.t) {
+    if passes_test_7(above.t.number) {
         let session = opened(E, above);
         Called {
             answer: count_to(1),
@@ -133,6 +142,62 @@ fn later_side(s: Side, terms: Terms) -> Side
     }
 }
 
+// A session `count` terms on, with its count of exact terms and its losses as they are.
+fn later(s: Session, count: u32) -> Session
+    requires { ⌜ (Begun s) × (s .N + count ≤ largest-order) ⌝ }
+    ensures { λ r. ⌜ r ≡ with-losses (state (conjunction-of s) (s .N + count)) (s .exact) (s .lossless) ⌝ }
+{
+    let p = advance(s, count);
+    let lower = later_side(s.lower, p.lower);
+    let upper = later_side(s.upper, p.upper);
+    let d = p.d;
+    let n = s.N + count;
+    let mut session = s;
+    session.N = n;
+    session.lower = lower;
+    session.upper = upper;
+    session.d = d;
+    session
+}
+
+// A session one term on, where nothing was lost before.
+fn one_more(s: Session) -> Session
+    requires { ⌜ (Begun s) × (s .N < largest-order) × (0 < s .lossless) ⌝ }
+    ensures { λ r. ⌜ r ≡ state (conjunction-of s) (suc (s .N)) ⌝ }
+{
+    let lost = next_losses(s);
+    let exact = s.exact + unless(lost.term);
+    let lossless = unless(lost.operand);
+    let mut session = later(s, 1);
+    session.exact = exact;
+    session.lossless = lossless;
+    session
+}
+
+// Whether the next of `left` terms may be exact.
+fn may_be_exact(lossless: u32, left: u32) -> bool
+    ensures { λ r. ⌜ r ≡ (ltb 0 lossless && ltb 0 left) ⌝ }
+{
+    if lossless == 0 {
+        return false;
+    }
+    0 < left
+}
+
+// A session `count` terms on: one by one while nothing is lost, then the others together.
+fn further(s: Session, count: u32) -> Session
+    requires { ⌜ (Begun s) × (s .N + count ≤ largest-order) ⌝ }
+    ensures { λ r. ⌜ r ≡ state (conjunction-of s) (s .N + count) ⌝ }
+{
+    let mut session = s;
+    let mut left = count;
+    while may_be_exact(session.lossless, left) {
+        session = one_more(session);
+        left -= 1;
+    }
+    later(session, left)
+}
+
 // Adds terms: refused as 21 or 22.
 pub fn add(s: Session, count: u16) -> Called
     requires { ⌜ Reached s ⌝ }
@@ -145,15 +210,7 @@ pub fn add(s: Session, count: u16) -> Called
     if LARGEST_ORDER < n {
         return refused_on(22, s);
     }
-    let p = advance(s, count as u32);
-    let lower = later_side(s.lower, p.lower);
-    let upper = later_side(s.upper, p.upper);
-    let d = p.d;
-    let mut session = s;
-    session.N = n;
-    session.lower = lower;
-    session.upper = upper;
-    session.d = d;
+    let session = further(s, count as u32);
     Called {
         answer: count_to(n),
         session,
@@ -181,6 +238,7 @@ pub fn read(s: Session) -> Answer
             class,
             object: s.object,
             time: s.time,
+            exact: s.exact,
         }
     } else {
         refuse(23)

@@ -57,7 +57,7 @@ fn whole_at(up: bool, x: Wide, k: usize) -> u64
     ensures { λ r. ⌜ r ≡ floor (value (times-power up (narrow x) k)) ⌝ }
 {
     let p = product(up, x, widen(power_of_ten(up, k)));
-    whole_part(p)
+    whole_part(p.number)
 }
 
 // For a number from 2^-(s+1) to below 2^-s: where to begin to look for the least power. 1233/4096 is just below the decimal logarithm of 2.

@@ -31,7 +31,8 @@ pub struct Side {
 }
 
 // The five inputs, the object number and the time of closest approach (both 0 after a begin without them), the order N (0 where no encounter was begun), both
-// sides, the upper r(256), M, and the upper d(N).
+// sides, the upper r(256), M, and the upper d(N); then how many of the N terms are exact, and 1 where nothing was lost on the way to what the next term is formed
+// of, else 0.
 #[repr(C)]
 pub struct Session {
     pub encounter: Encounter,
@@ -43,6 +44,8 @@ pub struct Session {
     pub r256: Scaled,
     pub M: Scaled,
     pub d: Scaled,
+    pub exact: u32,
+    pub lossless: u32,
 }
 
 pub enum Class {
@@ -51,7 +54,7 @@ pub enum Class {
     Open,
 }
 
-// The refusal's number, or 0; then the order, both ends and the class, and of an accepted read the object number and the time.
+// The refusal's number, or 0; then the order, both ends and the class, and of an accepted read the object number, the time and how many terms are exact.
 pub struct Answer {
     pub refusal: u32,
     pub N: u32,
@@ -60,6 +63,7 @@ pub struct Answer {
     pub class: Class,
     pub object: u32,
     pub time: u32,
+    pub exact: u32,
 }
 
 // What a call answers, and the session after it.

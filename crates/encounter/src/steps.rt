@@ -1,5 +1,6 @@
 // The rounded steps of document 01: letters, terms, tail term and exponential.
 pub mod letters;
+pub mod losses;
 pub mod powers;
 pub mod progress;
 pub mod sides;

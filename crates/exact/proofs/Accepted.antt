@@ -26,7 +26,8 @@ passed k b r h = go b refl h
     go true e z = let f : ⊥ = omega arith in absurd f
     go false e z = (e, z)
 
-neither : (a b : Bool) → (a || b) ≡ false → (a ≡ false) × (b ≡ false)
+-- of two tests neither is true
+pub neither : (a b : Bool) → (a || b) ≡ false → (a ≡ false) × (b ≡ false)
 neither true b h = (h, both b h)
   where
     both : (b : Bool) → true ≡ false → b ≡ false

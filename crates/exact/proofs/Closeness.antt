@@ -7,15 +7,15 @@ use native.Mathlib.Omega.{arith}
 use Rattle.exact.specs.Numbers.{largest-t, exponential-cut}
 use Rattle.exact.specs.Fraction.{Frac, _≼_, _⊕_, _⊗_, _÷_, _⊘_, _↑_, _over_, whole}
 use Rattle.exact.specs.Scaled.{one, value, D, U}
-use Rattle.exact.specs.Private.Round.{round}
 use Rattle.exact.proofs.Rounding.{slack}
 use Rattle.exact.specs.declared.Encounter.{Encounter}
-use Rattle.exact.specs.Steps.{same, add, mul, div, powers, next-power, side-letters, side-start, side-terms, side-powers, sum-to, tail-bound, exponential-with-tail, exponential-sum, r256, lower-end, upper-end}
+use Rattle.exact.specs.Arithmetic.{unrounded, rounded}
+use Rattle.exact.specs.Steps.{powers, next-power, side-letters, side-start, side-terms, side-powers, sum-to, tail-bound, exponential-with-tail, exponential-sum, r256, lower-end, upper-end}
 use Rattle.exact.specs.Refusals.{Accepted}
 use Rattle.exact.proofs.Fractions.{≼-refl, ≼-trans, ≼-of, ≽-of, add-mono, mul-mono, num-pos, quot-mono, quot-mul, drop-last}
 use Rattle.exact.proofs.Rounding.{round-close}
 use Rattle.exact.proofs.Powers.{Near, near-of, near-more, near-plus, near-times, near-share, pow-add, pow-square, pow-more, one-le-pow, grow}
-use Rattle.exact.proofs.Parallel.{Within, Close-letters, letters-close, start-close, terms-close, powers-close}
+use Rattle.exact.proofs.Parallel.{Kept, Within, side, exact, of-values, Close-letters, letters-close, start-close, terms-close, powers-close}
 use Rattle.exact.proofs.Enclosure.{up, one-is, lower-powers-pos, lower-powers-le, le-upper-powers}
 use Rattle.exact.proofs.Accepted.{facts}
 
@@ -36,22 +36,28 @@ near-up q = round-close true 31 q .above
 near-down : (q : Frac) → q ≼ value (D q) ⊗ ρ
 near-down q = round-close false 31 q .below
 
+-- "is at most, but for w factors r", where a rounding on each side takes one factor
+near-kept : {r : Frac} {f f′ : Frac → Frac} → whole 1 ≼ r → ((p q x : Frac) → p ≼ q ⊗ x → f p ≼ f′ q ⊗ (r ⊗ x)) → Kept f f′ (Near r)
+near-kept one rounds = record {
+  same = λ q. near-of (≼-refl q);
+  more = λ l h. near-more one l h;
+  wider = λ l k h. record { near = ≼-trans l (≼-trans (h .near) (mul-mono k (≼-refl _))) };
+  plus = λ h k. near-plus h k;
+  times = λ h k. near-times h k;
+  share = λ n h. near-share n h;
+  rounds = λ h. record { near = unfold _↑_ in rounds _ _ _ (h .near) };
+}
+
 -- ---- the upper side against the lower: two factors for each rounding
 
 rounds-form : (q ρ x : Frac) → q ⊗ ρ ⊗ x ⊗ ρ ≼ q ⊗ (ρ ⊗ ρ ⊗ x)
 unfolding _⊗_
 rounds-form q ρ x = record { le = omega arith }
 
-close : Within value (round true 32) value (round false 32) (Near (ρ ⊗ ρ))
-unfolding _↑_
-close = record {
-  same = λ q. near-of (≼-refl q);
-  more = λ l h. near-more one≼ρρ l h;
-  plus = λ h k. near-plus h k;
-  times = λ h k. near-times h k;
-  share = λ n h. near-share n h;
-  rounds = λ h. record { near = ≼-trans (near-up _) (≼-trans (mul-mono (≼-trans (h .near) (mul-mono (near-down _) (≼-refl _))) (≼-refl ρ)) (rounds-form _ _ _)) };
-}
+close : Within (rounded true 32) (rounded false 32) (λ w x x′. Near (ρ ⊗ ρ) w (value x) (value x′))
+close =
+    of-values (side true 32) (side false 32)
+    (near-kept one≼ρρ (λ p q r h. ≼-trans (near-up p) (≼-trans (mul-mono (≼-trans h (mul-mono (near-down q) (≼-refl r))) (≼-refl ρ)) (rounds-form _ ρ r))))
 
 -- ---- the upper r(k) against the exact one at t = 64: one factor for each rounding
 
@@ -59,20 +65,12 @@ lift : (q ρ x : Frac) → q ⊗ x ⊗ ρ ≼ q ⊗ (ρ ⊗ x)
 unfolding _⊗_
 lift q ρ x = record { le = omega arith }
 
-over-exact : Within value (round true 32) same same (Near ρ)
-unfolding _↑_
-over-exact = record {
-  same = λ q. near-of (≼-refl q);
-  more = λ l h. near-more one≼ρ l h;
-  plus = λ h k. near-plus h k;
-  times = λ h k. near-times h k;
-  share = λ n h. near-share n h;
-  rounds = λ h. record { near = ≼-trans (near-up _) (≼-trans (mul-mono (h .near) (≼-refl ρ)) (lift _ _ _)) };
-}
+over-exact : Within (rounded true 32) unrounded (λ w x q. Near ρ w (value x) q)
+over-exact = of-values (side true 32) exact (near-kept one≼ρ (λ p q r h. ≼-trans (near-up p) (≼-trans (mul-mono h (≼-refl ρ)) (lift q ρ r))))
 
 -- 2 × 64^256/256!, with 1,280 roundings upwards, is at most 2^-31
-tiny : whole 2 ⊗ (powers same same (whole 1) (whole largest-t) exponential-cut .r ⊗ ρ ↑ 1280) ≼ 1 over (2 ^ 31)
-unfolding powers next-power div mul add slack whole _over_ _⊗_ _÷_ _↑_ IsLe
+tiny : whole 2 ⊗ (powers unrounded (whole 1) (whole largest-t) exponential-cut .r ⊗ ρ ↑ 1280) ≼ 1 over (2 ^ 31)
+unfolding powers next-power unrounded slack whole _over_ _⊗_ _÷_ _↑_ IsLe
 tiny = record { le = le-by-compare _ _ tt }
 
 split : (q : Frac) → q ⊕ q ⊗ (1 over (2 ^ 31)) ≼ q ⊗ ρ
@@ -88,17 +86,15 @@ unfolding _⊗_ whole
 one-form q = record { le = omega arith }
 
 one≼powers : (E : Encounter) (k : ℕ) → whole 1 ≼ value (side-powers true E k .sum)
-unfolding side-powers powers next-power add
+unfolding side-powers powers next-power rounded
 one≼powers E zero = ≽-of one-is
 one≼powers E (suc k) = ≼-trans (one≼powers E k) (≼-trans (drop-last _ _) (up _))
 
 module _ (E : Encounter) (t≤ : value (side-letters true E .t) ≼ whole largest-t) where
-  r-near : Near ρ 1280 (value (side-powers true E exponential-cut .r)) (powers same same (whole 1) (whole largest-t) exponential-cut .r)
+  r-near : Near ρ 1280 (value (side-powers true E exponential-cut .r)) (powers unrounded (whole 1) (whole largest-t) exponential-cut .r)
   unfolding side-powers
   r-near =
-      powers-close value (round true 32) same same (Near ρ) over-exact one _ (whole 1) (whole largest-t)
-      (near-of (≼-of one-is))
-      (near-more one≼ρ (omega arith) (near-of t≤)) exponential-cut .r
+      powers-close over-exact one _ (whole 1) (whole largest-t) (near-of (≼-of one-is)) (near-more one≼ρ (omega arith) (near-of t≤)) exponential-cut .r
 
   -- 2r(256) is within one rounding of the exponential's sum
   small : value (side-powers true E (pred exponential-cut) .sum) ⊕ whole 2 ⊗ value (side-powers true E exponential-cut .r) ≼ value (side-powers true E (pred exponential-cut) .sum) ⊗ ρ
@@ -111,21 +107,21 @@ module _ (E : Encounter) (t≤ : value (side-letters true E .t) ≼ whole larges
 -- ---- the two ends
 
 module _ (E : Encounter) where
-  letters-near : Close-letters value (round true 32) value (round false 32) (Near (ρ ⊗ ρ)) close (side-letters true E) (side-letters false E)
+  letters-near : Close-letters close (side-letters true E) (side-letters false E)
   unfolding side-letters
-  letters-near = letters-close value (round true 32) value (round false 32) (Near (ρ ⊗ ρ)) close E
+  letters-near = letters-close close E
 
   start-near : Near (ρ ⊗ ρ) 1 (value (side-start true E)) (value (side-start false E))
   unfolding side-start
-  start-near = start-close value (round true 32) value (round false 32) (Near (ρ ⊗ ρ)) close E
+  start-near = start-close close E
 
   sum-near : (n : ℕ) → value (side-terms true E n .sum) ≼ value (side-terms false E n .sum) ⊗ (ρ ⊗ ρ) ↑ (9 * n + 1)
   unfolding side-terms
-  sum-near n = terms-close value (round true 32) value (round false 32) (Near (ρ ⊗ ρ)) close _ _ letters-near start-near n .sum .near
+  sum-near n = terms-close close _ _ letters-near start-near n .sum .near
 
   powers-near : value (side-powers true E (pred exponential-cut) .sum) ≼ value (side-powers false E (pred exponential-cut) .sum) ⊗ (ρ ⊗ ρ) ↑ 1276
   unfolding side-powers
-  powers-near = powers-close value (round true 32) value (round false 32) (Near (ρ ⊗ ρ)) close one _ one _ (close .same (value one)) (letters-near .t) (pred exponential-cut) .sum .near
+  powers-near = powers-close close one _ one _ (near-of (≼-refl (value one))) (letters-near .t) (pred exponential-cut) .sum .near
 
 -- (p × q) / q
 mul-quot : (p q : Frac) → 0 < q .num → (p ⊗ q) ⊘ q ≼ p

@@ -10,7 +10,8 @@ use native.Mathlib.Decide.{ℕ-discrete}
 use Rattle.exact.specs.declared.Scaled.{Scaled}
 use Rattle.exact.specs.Fraction.{_≼_, _≈_, whole, at-most, above}
 use Rattle.exact.specs.Scaled.{value}
-use Rattle.exact.specs.Decimals.{table-length, entry, times-power, reaches, least, least-power, floor, digits-of, at-power, one-or-more, zero-decimal, least-decimal, too-small, below-1, decimal-of}
+use Rattle.exact.specs.Decimals.{table-length, entry, times-power, reaches, least-power, floor, digits-of, at-power, one-or-more, zero-decimal, least-decimal, too-small, below-1, decimal-of}
+use Rattle.exact.specs.Least.{least}
 use Rattle.exact.proofs.Fractions.{_≺_, lt-or-le, ≈-refl, mul-cong}
 use Rattle.exact.proofs.Order.{at-most-cong, above-holds}
 use Rattle.exact.proofs.Rounding.{round-cong}

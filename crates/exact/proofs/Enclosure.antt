@@ -9,18 +9,18 @@ use lib.Dec.{lit<}
 use Rattle.exact.specs.Numbers.{largest-t, exponential-cut}
 use Rattle.exact.specs.Fraction.{Frac, _≼_, _≈_, _⊕_, _⊗_, _÷_, _⊘_, _↑_, _over_, whole, sum}
 use Rattle.exact.specs.Scaled.{one, value, D, U}
-use Rattle.exact.specs.Private.Round.{round}
 use Rattle.exact.proofs.Rounding.{slack}
 use Rattle.exact.specs.declared.Encounter.{Encounter}
 use Rattle.exact.specs.Series.{u, g, h, X, Y, t, a₀, factorial, exponential-term, series, exponential, quotient}
-use Rattle.exact.specs.Steps.{same, add, start, powers, next-power, bound, tail-term, next-d, mul, div, side-letters, side-start, side-terms, side-powers, sum-to, M, d, tail-bound, exponential-with-tail, exponential-sum, r256, lower-end, upper-end}
+use Rattle.exact.specs.Arithmetic.{unrounded, rounded}
+use Rattle.exact.specs.Steps.{start, powers, next-power, bound, tail-term, next-d, side-letters, side-start, side-terms, side-powers, sum-to, M, d, tail-bound, exponential-with-tail, exponential-sum, r256, lower-end, upper-end}
 use Rattle.exact.specs.Refusals.{refuses-23, Accepted}
 use Rattle.exact.proofs.Fractions.{≼-refl, ≼-trans, never-falls, ≼-of, ≽-of, add-mono, mul-mono, div-mono, num-pos, quot-mono, drop-last}
 use Rattle.exact.proofs.Rounding.{round-is, round-close}
 use Rattle.exact.proofs.Order.{not-above}
 use Rattle.exact.proofs.Unrounded.{exact-letters, letters-are, sum-is, powers-are}
 use Rattle.exact.proofs.Majorant.{m, exact-d, series-tail, exponential-tail}
-use Rattle.exact.proofs.Parallel.{Within, in-order, Close-letters, letters-close, start-close, terms-close, bound-close, tail-close, powers-close}
+use Rattle.exact.proofs.Parallel.{Within, side, exact, of-values, in-order, Close-letters, letters-close, start-close, terms-close, bound-close, tail-close, powers-close}
 use Rattle.exact.proofs.Accepted.{facts}
 
 -- ---- D stays below, U above
@@ -31,11 +31,11 @@ down q = round-is false 32 q (lit< tt) .side
 pub up : (q : Frac) → q ≼ value (U q)
 up q = round-is true 32 q (lit< tt) .side
 
-pub below : Within value (round false 32) same same (λ w p q. p ≼ q)
-below = in-order value (round false 32) same same (λ p q h. ≼-trans (down p) h)
+pub below : Within (rounded false 32) unrounded (λ w x q. value x ≼ q)
+below = of-values (side false 32) exact (in-order (λ p q h. ≼-trans (down p) h))
 
-pub above : Within same same value (round true 32) (λ w p q. p ≼ q)
-above = in-order same same value (round true 32) (λ p q h. ≼-trans h (up q))
+pub above : Within unrounded (rounded true 32) (λ w q x. q ≼ value x)
+above = of-values exact (side true 32) (in-order (λ p q h. ≼-trans h (up q)))
 
 pub one-is : value one ≈ whole 1
 unfolding value whole
@@ -67,8 +67,8 @@ unfolding h g _over_
 h-le-u E = shrink (u E) (g E) (omega arith)
 
 -- the majorant's terms by the steps with no rounding
-unrounded-d : (c₀ M : Frac) (n : ℕ) → exact-d c₀ M n ≼ tail-term same same c₀ M n
-unfolding exact-d tail-term next-d mul div
+unrounded-d : (c₀ M : Frac) (n : ℕ) → exact-d c₀ M n ≼ tail-term unrounded c₀ M n
+unfolding exact-d tail-term next-d unrounded
 unrounded-d c₀ M zero = ≼-refl _
 unrounded-d c₀ M (suc n) = div-mono (suc (suc n)) (mul-mono (unrounded-d c₀ M n) (≼-refl M))
 
@@ -81,66 +81,56 @@ pub down-pos : (q : Frac) → 0 < q .num → 0 < value (D q) .num
 down-pos q l = factor-pos _ (slack 31) (num-pos (round-close false 31 q .below) l)
 
 pub lower-powers-pos : (E : Encounter) (k : ℕ) → 0 < value (side-powers false E k .sum) .num
-unfolding side-powers powers next-power add
+unfolding side-powers powers next-power rounded
 lower-powers-pos E zero = num-pos (≽-of one-is) one-pos
 lower-powers-pos E (suc k) = down-pos _ (num-pos (drop-last _ _) (lower-powers-pos E k))
 
 -- ---- each side against the exact series
 
 module _ (E : Encounter) where
-  pub lower-letters : Close-letters value (round false 32) same same (λ w p q. p ≼ q) below (side-letters false E) (exact-letters E)
+  pub lower-letters : Close-letters below (side-letters false E) (exact-letters E)
   unfolding side-letters
-  lower-letters = rw (← letters-are E) (letters-close value (round false 32) same same (λ w p q. p ≼ q) below E)
+  lower-letters = rw (← letters-are E) (letters-close below E)
 
-  pub upper-letters : Close-letters same same value (round true 32) (λ w p q. p ≼ q) above (exact-letters E) (side-letters true E)
+  pub upper-letters : Close-letters above (exact-letters E) (side-letters true E)
   unfolding side-letters
-  upper-letters = rw (← letters-are E) (letters-close same same value (round true 32) (λ w p q. p ≼ q) above E)
+  upper-letters = rw (← letters-are E) (letters-close above E)
 
   lower-start : value (side-start false E) ≼ a₀ E
-  unfolding side-start start
-  lower-start = start-close value (round false 32) same same (λ w p q. p ≼ q) below E
+  unfolding side-start unrounded start
+  lower-start = start-close below E
 
   upper-start : a₀ E ≼ value (side-start true E)
-  unfolding side-start start
-  upper-start = start-close same same value (round true 32) (λ w p q. p ≼ q) above E
+  unfolding side-start unrounded start
+  upper-start = start-close above E
 
   lower-sum-le : (n : ℕ) → value (side-terms false E n .sum) ≼ series E (suc n)
   unfolding side-terms series
-  lower-sum-le n =
-      ≼-trans (terms-close value (round false 32) same same (λ w p q. p ≼ q) below _ _ lower-letters lower-start n .sum)
-      (≼-of (sum-is E n))
+  lower-sum-le n = ≼-trans (terms-close below _ _ lower-letters lower-start n .sum) (≼-of (sum-is E n))
 
   le-upper-sum : (n : ℕ) → series E (suc n) ≼ value (side-terms true E n .sum)
   unfolding side-terms series
-  le-upper-sum n =
-      ≼-trans (≽-of (sum-is E n))
-      (terms-close same same value (round true 32) (λ w p q. p ≼ q) above _ _ upper-letters upper-start n .sum)
+  le-upper-sum n = ≼-trans (≽-of (sum-is E n)) (terms-close above _ _ upper-letters upper-start n .sum)
 
   pub lower-powers-le : (k : ℕ) → value (side-powers false E k .sum) ≼ exponential E (suc k)
   unfolding side-powers exponential
-  lower-powers-le k =
-      ≼-trans (powers-close value (round false 32) same same (λ w p q. p ≼ q) below one _ (whole 1) (t E) (≼-of one-is) (lower-letters .t) k .sum)
-      (≼-of (powers-are (t E) k .sum-is))
+  lower-powers-le k = ≼-trans (powers-close below one _ (whole 1) (t E) (≼-of one-is) (lower-letters .t) k .sum) (≼-of (powers-are (t E) k .sum-is))
 
   pub le-upper-powers : (k : ℕ) → exponential E (suc k) ≼ value (side-powers true E k .sum)
   unfolding side-powers exponential
-  le-upper-powers k =
-      ≼-trans (≽-of (powers-are (t E) k .sum-is))
-      (powers-close same same value (round true 32) (λ w p q. p ≼ q) above (whole 1) (t E) one _ (≽-of one-is) (upper-letters .t) k .sum)
+  le-upper-powers k = ≼-trans (≽-of (powers-are (t E) k .sum-is)) (powers-close above (whole 1) (t E) one _ (≽-of one-is) (upper-letters .t) k .sum)
 
   le-upper-r : (k : ℕ) → exponential-term (t E) k ≼ value (side-powers true E k .r)
   unfolding side-powers
-  le-upper-r k =
-      ≼-trans (≽-of (powers-are (t E) k .r-is))
-      (powers-close same same value (round true 32) (λ w p q. p ≼ q) above (whole 1) (t E) one _ (≽-of one-is) (upper-letters .t) k .r)
+  le-upper-r k = ≼-trans (≽-of (powers-are (t E) k .r-is)) (powers-close above (whole 1) (t E) one _ (≽-of one-is) (upper-letters .t) k .r)
 
   m-le-M : m (u E) (h E) (X E) (Y E) ≼ value (M E)
-  unfolding M m bound add
-  m-le-M = bound-close same same value (round true 32) (λ w p q. p ≼ q) above _ _ upper-letters
+  unfolding M m bound unrounded
+  m-le-M = bound-close above _ _ upper-letters
 
   le-d : (N : ℕ) → exact-d (a₀ E) (value (M E)) N ≼ value (d E N)
   unfolding d
-  le-d N = ≼-trans (unrounded-d (a₀ E) (value (M E)) N) (tail-close same same value (round true 32) (λ w p q. p ≼ q) above upper-start (≼-refl _) N)
+  le-d N = ≼-trans (unrounded-d (a₀ E) (value (M E)) N) (tail-close above upper-start (≼-refl _) N)
 
   -- ---- later cuts
 

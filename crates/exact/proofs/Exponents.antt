@@ -8,31 +8,31 @@ use lib.Dec.{lit<}
 use lib.IntN.{natAbs}
 use Rattle.exact.specs.Numbers.{largest-length, largest-order}
 use Rattle.exact.specs.declared.Scaled.{Scaled}
-use Rattle.exact.specs.Fraction.{_⊕_, _÷_, _over_}
-use Rattle.exact.specs.Scaled.{value}
+use Rattle.exact.specs.Fraction.{_over_}
 use Rattle.exact.specs.Private.Ranges.{InRange, Letters-in, Terms-in, Powers-in, Bounds}
 use Rattle.exact.specs.Private.Round.{round}
 use Rattle.exact.specs.declared.Encounter.{Encounter}
 use Rattle.exact.specs.Series.{square, u, b, zx, zy, g, a₀}
-use Rattle.exact.specs.Steps.{LettersOf, TermsOf, add, mul, div, letters, start, first, next-c, next-p, next-v, next-y, next, terms, bound, next-d, tail-term, next-power, powers}
-use Rattle.exact.proofs.Order.{sum-half}
+use Rattle.exact.specs.Arithmetic.{rounded}
+use Rattle.exact.specs.Steps.{LettersOf, TermsOf, letters, start, first, next-c, next-p, next-v, next-y, next, terms, bound, next-d, tail-term, next-power, powers}
 use Rattle.exact.proofs.Ranges.{widen, product-range, sum-range, over-range, ratio-range, half-range}
 
 module _ (up : Bool) where
-  pub add-in : {A : ℕ} {x y : Scaled} → InRange 32 A x → InRange 32 A y → InRange 32 (A + 1 + 1) (add value (round up 32) x y)
-  unfolding add
+  pub add-in : {A : ℕ} {x y : Scaled} → InRange 32 A x → InRange 32 A y → InRange 32 (A + 1 + 1) (rounded up 32 .sum x y)
+  unfolding rounded
   add-in h k = sum-range up 32 (lit< tt) h k
 
-  pub mul-in : {A B : ℕ} {x y : Scaled} → InRange 32 A x → InRange 32 B y → InRange 32 (A + B + 32 + 1) (mul value (round up 32) x y)
-  unfolding mul
+  pub mul-in : {A B : ℕ} {x y : Scaled} → InRange 32 A x → InRange 32 B y → InRange 32 (A + B + 32 + 1) (rounded up 32 .product x y)
+  unfolding rounded
   mul-in h k = product-range up 32 (lit< tt) h k
 
-  pub div-in : {A : ℕ} {x : Scaled} (k : ℕ) → 0 < k → k ≤ 2 ^ 32 → InRange 32 A x → InRange 32 (A + 32 + 1) (div value (round up 32) x k)
-  unfolding div
+  pub div-in : {A : ℕ} {x : Scaled} (k : ℕ) → 0 < k → k ≤ 2 ^ 32 → InRange 32 A x → InRange 32 (A + 32 + 1) (rounded up 32 .quotient x k)
+  unfolding rounded
   div-in k p l h = over-range up 32 (lit< tt) k p l h
 
-  pub half-in : {A : ℕ} {x y : Scaled} → InRange 32 A x → InRange 32 A y → InRange 32 (A + 1 + 1 + 1) (round up 32 (value x ⊕ value y ÷ 2))
-  half-in {A} {x} {y} h k = rw (sum-half up 32 x y (lit< tt)) (sum-range up 32 (lit< tt) (widen (omega arith) h) (half-range k))
+  pub half-in : {A : ℕ} {x : Scaled} → InRange 32 A x → InRange 32 (A + 1) (rounded up 32 .half x)
+  unfolding rounded
+  half-in h = half-range h
 
   module _ (l : LettersOf Scaled) (i : Letters-in l) where
     -- ---- the terms
@@ -44,18 +44,18 @@ module _ (up : Bool) where
         let b : suc (suc n) ≤ suc largest-order = omega arith in
         omega (arith, mul-le-mul a b)
 
-    pub c-in : (B n : ℕ) {s : TermsOf Scaled} → n < largest-order → Terms-in B s → InRange 32 (B + 460) (next-c value (round up 32) l n s)
+    pub c-in : (B n : ℕ) {s : TermsOf Scaled} → n < largest-order → Terms-in B s → InRange 32 (B + 460) (next-c (rounded up 32) l n s)
     unfolding next-c
     c-in B n {s} nl k =
         widen (omega arith)
         (div-in (suc n * suc (suc n)) (mul-pos (zero-lt-suc n) (zero-lt-suc (suc n))) (small n nl)
         (add-in
         (widen {B = B + 425} (omega arith) (add-in
-        (widen {B = B + 423} (omega arith) (half-in (widen {B = B + 420} (omega arith) (k .p)) (widen (omega arith) (mul-in (i .h) (k .v)))))
+        (widen {B = B + 423} (omega arith) (add-in (widen {B = B + 420 + 1} (omega arith) (k .p)) (half-in (widen {B = B + 420} (omega arith) (mul-in (i .h) (k .v))))))
         (widen (omega arith) (mul-in (i .X) (k .y)))))
         (widen (omega arith) (mul-in (i .Y) (k .c)))))
 
-    next-in : (B n : ℕ) {s : TermsOf Scaled} → n < largest-order → Terms-in B s → Terms-in (B + 700) (next value (round up 32) l n s)
+    next-in : (B n : ℕ) {s : TermsOf Scaled} → n < largest-order → Terms-in B s → Terms-in (B + 700) (next (rounded up 32) l n s)
     unfolding next next-p next-v next-y
     next-in B n {s} nl k =
         let c = c-in B n nl k in
@@ -70,7 +70,7 @@ module _ (up : Bool) where
           sum = widen (omega arith) (add-in (widen {B = B + 460} (omega arith) (k .sum)) c);
         }
 
-    pub terms-in : {c₀ : Scaled} → InRange 32 177 c₀ → (n : ℕ) → n ≤ largest-order → Terms-in (700 * n + 400) (terms value (round up 32) l c₀ n)
+    pub terms-in : {c₀ : Scaled} → InRange 32 177 c₀ → (n : ℕ) → n ≤ largest-order → Terms-in (700 * n + 400) (terms (rounded up 32) l c₀ n)
     unfolding terms first
     terms-in z zero nl =
         let c₀ = widen {B = 400} (omega arith) z in
@@ -82,20 +82,20 @@ module _ (up : Bool) where
 
     -- ---- M and d(n)
 
-    pub bound-in : InRange 32 400 (bound value (round up 32) l)
+    pub bound-in : InRange 32 400 (bound (rounded up 32) l)
     unfolding bound
     bound-in =
         widen (omega arith)
-        (add-in (add-in (half-in (widen {B = 387} (omega arith) (i .u)) (i .h)) (widen {B = 387 + 1 + 1 + 1} (omega arith) (i .X))) (widen {B = 387 + 1 + 1 + 1 + 1 + 1} (omega arith) (i .Y)))
+        (add-in (add-in (add-in (widen {B = 387 + 1} (omega arith) (i .u)) (half-in (i .h))) (widen {B = 387 + 1 + 1 + 1} (omega arith) (i .X))) (widen {B = 387 + 1 + 1 + 1 + 1 + 1} (omega arith) (i .Y)))
 
-  pub tail-in : {c₀ M : Scaled} → InRange 32 177 c₀ → InRange 32 400 M → (n : ℕ) → n ≤ largest-order → InRange 32 (700 * n + 400) (tail-term value (round up 32) c₀ M n)
+  pub tail-in : {c₀ M : Scaled} → InRange 32 177 c₀ → InRange 32 400 M → (n : ℕ) → n ≤ largest-order → InRange 32 (700 * n + 400) (tail-term (rounded up 32) c₀ M n)
   unfolding tail-term next-d
   tail-in z m zero nl = widen (omega arith) z
   tail-in z m (suc n) nl = widen (omega arith) (div-in (suc (suc n)) (zero-lt-suc (suc n)) (omega arith) (mul-in (tail-in z m n (omega arith)) m))
 
   -- ---- r(k) and its sum
 
-  pub powers-in : (one t : Scaled) → InRange 32 400 one → InRange 32 387 t → (k : ℕ) → k ≤ largest-order → Powers-in (700 * k + 400) (powers value (round up 32) one t k)
+  pub powers-in : (one t : Scaled) → InRange 32 400 one → InRange 32 387 t → (k : ℕ) → k ≤ largest-order → Powers-in (700 * k + 400) (powers (rounded up 32) one t k)
   unfolding powers next-power
   powers-in one t o i zero kl = record { r = o; sum = o }
   powers-in one t o i (suc k) kl =
@@ -128,8 +128,8 @@ module _ (up : Bool) where
           ratio-in (E .sx * E .sx - E .sy * E .sy) (E .sx * E .sx) (omega arith) (omega arith) xp,
         )
 
-  pub letters-in : {E : Encounter} → Bounds E → Letters-in (letters value (round up 32) E)
-  unfolding letters
+  pub letters-in : {E : Encounter} → Bounds E → Letters-in (letters (rounded up 32) E)
+  unfolding letters rounded
   letters-in {E} f =
       let i = fractions-in f in
       record {
@@ -140,8 +140,8 @@ module _ (up : Bool) where
         t = widen (omega arith) (add-in (add-in (i .2) (i .3)) (widen {B = 177 + 1 + 1} (omega arith) (i .0)));
       }
 
-  pub start-in : {E : Encounter} → Bounds E → InRange 32 177 (start value (round up 32) E)
-  unfolding start a₀
+  pub start-in : {E : Encounter} → Bounds E → InRange 32 177 (start (rounded up 32) E)
+  unfolding start rounded a₀
   start-in {E} f =
       let xy = mul-le-mul (f .sx-max) (f .sy-max) in
       let p = mul-pos (f .sx-pos) (f .sy-pos) in

@@ -4,7 +4,19 @@ use mathlib.Core.Bool.{Bool, true, false, cond}
 use Prim.Native.Nat.{ℕ, zero, suc, _≤_, _<_}
 use native.Mathlib.Nat.{le-of-suc-le-suc, not-suc-le-zero}
 use native.Mathlib.Omega.{arith}
-use Rattle.exact.specs.Decimals.{least}
+use Rattle.exact.specs.Least.{least}
+
+pub least-le : (f : ℕ → Bool) (n : ℕ) → least f n ≤ n
+unfolding least
+least-le f zero = omega arith
+least-le f (suc n) = go (f 0) (least-le (λ k. f (suc k)) n)
+  where
+    m : ℕ
+    m = least (λ k. f (suc k)) n
+
+    go : (b : Bool) → m ≤ n → cond b 0 (suc m) ≤ suc n
+    go true l = omega arith
+    go false l = omega arith
 
 -- below it the test is false
 pub least-before : (f : ℕ → Bool) (n k : ℕ) → k < least f n → f k ≡ false

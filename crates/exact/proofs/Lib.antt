@@ -23,6 +23,7 @@ pub mod Exponents
 pub mod Mirror
 pub mod Tables
 pub mod Least
+pub mod Losses
 pub mod DecimalProducts
 pub mod DecimalCases
 pub mod LastDigit

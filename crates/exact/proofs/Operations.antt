@@ -14,13 +14,13 @@ use lib.Ieee.Digits.{size-lt, size-le}
 use Rattle.exact.specs.declared.Scaled.{Scaled}
 use Rattle.exact.specs.Integer.{posPart, negPart}
 use Rattle.exact.specs.Fraction.{Frac, _≈_, _⊕_, _⊗_, _÷_, _⊘_, _over_, whole}
-use Rattle.exact.specs.Scaled.{scaled, nought, value, Normal, IsScaled}
+use Rattle.exact.specs.Scaled.{scaled, nought, value, Normal, IsScaled, lost}
 use Rattle.exact.specs.Private.Round.{round}
 use Rattle.exact.proofs.Integers.{bal-add, bal-diff}
 use Rattle.exact.proofs.Fractions.{≈-trans, add-comm}
 use Rattle.exact.proofs.Bits.{size-low}
 use Rattle.exact.proofs.Grid.{near-exact, near-quotient}
-use Rattle.exact.proofs.Rounding.{Packed, pack-round, zero-round, round-exact, round-cong}
+use Rattle.exact.proofs.Rounding.{Packed, pack-round, zero-round, round-exact, round-cong, lost-none, lost-cong}
 
 pub normal : {b : ℕ} {x : Scaled} → IsScaled b x → (x .m ≡ 0 → ⊥) → Normal b x
 normal (inl z) h = absurd (h (ap (λ (y : Scaled). y .m) z))
@@ -97,8 +97,14 @@ sum-packs up b x y g bp n e =
 pub sum-none : (up : Bool) (b : ℕ) (x y : Scaled) → 0 < b → IsScaled b x → y .m ≡ 0 → round up b (value x ⊕ value y) ≡ x
 sum-none up b x y bp n z = round-exact up b bp n (unfold value _⊕_ in record { eq = rw z (omega arith) })
 
+pub sum-kept : (up : Bool) (b : ℕ) (x y : Scaled) → 0 < b → IsScaled b x → y .m ≡ 0 → lost up b (value x ⊕ value y) ≡ false
+sum-kept up b x y bp n z = lost-none up b _ (rw (sum-none up b x y bp n z) (unfold value _⊕_ in record { eq = rw z (omega arith) }))
+
 pub sum-comm : (up : Bool) (b : ℕ) (x y : Scaled) → 0 < b → round up b (value x ⊕ value y) ≡ round up b (value y ⊕ value x)
 sum-comm up b x y bp = round-cong up b bp (add-comm (value x) (value y))
+
+pub lost-comm : (up : Bool) (b : ℕ) (x y : Scaled) → 0 < b → lost up b (value x ⊕ value y) ≡ lost up b (value y ⊕ value x)
+lost-comm up b x y bp = lost-cong up b bp (add-comm (value x) (value y))
 
 -- a mantissa of b bits, followed by w zeros and divided by at most 2^w, has b bits or more
 pub wide : (b w m k : ℕ) → 0 < k → k ≤ 2 ^ w → 2 ^ b ≤ 2 * m → 2 ^ b ≤ 2 * (m * 2 ^ w / k)

@@ -142,10 +142,7 @@ double-exact x = by-mantissa x (x .e +ℤ pos 1) (whole 2 ⊗ value x) (λ n. un
     is : x .m * 2 ^ posPart (x .e +ℤ pos 1) * (1 * 2 ^ negPart (x .e)) ≡ 2 * (x .m * 2 ^ posPart (x .e)) * 2 ^ negPart (x .e +ℤ pos 1)
     is = omega (arith, ap (λ (z : ℕ). x .m * z) (simp (pow-add 2) at (ap (λ (z : ℕ). 2 ^ z) (bal-add (x .e) (pos 1)))))
 
--- a sum with a half, or with a double
-pub sum-half : (up : Bool) (b : ℕ) (x y : Scaled) → 0 < b → round up b (value x ⊕ value y ÷ 2) ≡ round up b (value x ⊕ value (half y))
-sum-half up b x y bp = round-cong up b bp (add-cong (≈-refl (value x)) (≈-sym (half-exact y)))
-
+-- a sum with a double
 pub sum-double : (up : Bool) (b : ℕ) (x y : Scaled) → 0 < b → round up b (value x ⊕ whole 2 ⊗ value y) ≡ round up b (value x ⊕ value (double y))
 sum-double up b x y bp = round-cong up b bp (add-cong (≈-refl (value x)) (≈-sym (double-exact y)))
 

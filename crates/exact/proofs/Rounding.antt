@@ -1,11 +1,11 @@
 -- `round` is the rounding that `IsRound` describes, in both directions and at any number of bits, and it is the only one. The laws of D and U, once each.
 use mathlib.Core.Path.{_≡_, refl, sym, _∙_, ap}
-use mathlib.Core.Bool.{Bool, true, false, _&&_}
+use mathlib.Core.Bool.{Bool, true, false, not, _&&_, true≢false}
 use mathlib.Core.Logic.{inl, inr, ⊎-elim}
 use Prim.Native.Nat.{ℕ, suc, _+_, _-_, _*_, _/_, _^_, _≤_, _<_}
 use native.Mathlib.Nat.{le-trans, le-of-eq, le-of-lt, mul-le-mul, mul-le-mul-left, mul-le-mul-right, mul-lt-mul-of-pos-right, mul-pos, zero-mul, zero-div, le-div-iff-mul-le, eq-zero-or-pos, eq-of-mul-eq-mul-right, pow-succ', suc-pred-eq-of-pos}
 use native.Mathlib.Omega.{arith}
-use borrow.Author.Tests.{eq-eqb, ne-eqb}
+use borrow.Author.Tests.{eq-eqb, ne-eqb, eqb-true, not-false}
 use lib.IntN.{ℤ, pos, subℕ}
 use lib.Pow.{pow-pos, pow-add, pow-mono}
 use lib.Ieee.{size}
@@ -183,9 +183,28 @@ pub lost-none : (up : Bool) (b : ℕ) (q : Frac) → value (round up b q) ≈ q 
 unfolding lost
 lost-none up b q e = rw (eq-eqb _ _ (e .eq))
 
+pub lost-not : (up : Bool) (b : ℕ) (q : Frac) → lost up b q ≡ false → value (round up b q) ≈ q
+unfolding lost
+lost-not up b q e = record { eq = eqb-true _ _ (not-false _ e) }
+
 pub lost-some : (up : Bool) (b : ℕ) (q : Frac) → (value (round up b q) ≈ q → ⊥) → lost up b q ≡ true
 unfolding lost
 lost-some up b q e = rw (ne-eqb _ _ (λ z. e (record { eq = z })))
+
+-- nothing where the rounding is zero
+pub lost-nought : (up : Bool) (b : ℕ) (q : Frac) → 0 < b → round up b q ≡ nought → lost up b q ≡ false
+lost-nought up b q bp e = lost-none up b q (rw e (unfold value in record { eq = rw (round-zero up b q bp e) (omega arith) }))
+
+-- the value alone counts, not numerator and denominator
+pub lost-cong : (up : Bool) (b : ℕ) {p q : Frac} → 0 < b → p ≈ q → lost up b p ≡ lost up b q
+lost-cong up b {p} {q} bp e = go (lost up b q) refl
+  where
+    same : round up b p ≡ round up b q
+    same = round-cong up b bp e
+
+    go : (z : Bool) → lost up b q ≡ z → lost up b p ≡ z
+    go false k = lost-none up b p (≈-trans (rw same (lost-not up b q k)) (≈-sym e))
+    go true k = lost-some up b p (λ h. let f : true ≡ false = sym k ∙ lost-none up b q (≈-trans (rw (← same) h) e) in true≢false f)
 
 ≺-not-≈ : {p q : Frac} → p ≺ q → p ≈ q → ⊥
 ≺-not-≈ h e = ≺-irrefl (≺-≼ h (≽-of e))

@@ -16,18 +16,19 @@ use Rattle.exact.specs.Scaled.{scaled, one, value, D, U}
 use Rattle.exact.specs.Private.Round.{round, pack, finish, spare, inexact}
 use Rattle.exact.specs.Private.Ranges.{Bounds}
 use Rattle.exact.specs.Series.{a₀}
-use Rattle.exact.specs.Steps.{add, mul, div, start, first, terms, powers, next-power, side-letters, side-start, side-terms, side-powers, sum-to, exponential-with-tail, exponential-sum, r256, lower-end, upper-end}
+use Rattle.exact.specs.Arithmetic.{rounded}
+use Rattle.exact.specs.Steps.{start, first, terms, powers, next-power, side-letters, side-start, side-terms, side-powers, sum-to, exponential-with-tail, exponential-sum, r256, lower-end, upper-end}
 use Rattle.exact.specs.Refusals.{refuses-23, Accepted}
 use Rattle.exact.proofs.Fractions.{≼-refl, ≼-trans, add-mono, mul-mono, num-pos, quot-mono, drop-last}
 use Rattle.exact.proofs.Rounding.{round-mono}
-use Rattle.exact.proofs.Parallel.{Within, in-order, Close-powers, powers-close}
+use Rattle.exact.proofs.Parallel.{Within, side, of-values, in-order, Close-powers, powers-close}
 use Rattle.exact.proofs.Accepted.{facts}
 use Rattle.exact.proofs.LowerEnds.{lower-end-never-falls}
 use Rattle.exact.proofs.Enclosure.{up, exponential-pos, le-upper-powers, enclosed}
 
 -- "U(upper exponential sum + 2 × upper r(256))" of a rounded t
 abbrev with-tail : Scaled → Scaled
-with-tail t = U (value (powers value (round true 32) one t (pred exponential-cut) .sum) ⊕ whole 2 ⊗ value (powers value (round true 32) one t exponential-cut .r))
+with-tail t = U (value (powers (rounded true 32) one t (pred exponential-cut) .sum) ⊕ whole 2 ⊗ value (powers (rounded true 32) one t exponential-cut .r))
 
 -- the same at t = 64, which is computed below: about 6.2351 × 10^27
 abbrev largest-exponential : Scaled
@@ -44,7 +45,7 @@ smallest-end = D (value (D smallest-start) ⊘ value largest-exponential)
 -- ---- what is computed
 
 largest-is : with-tail (U (whole largest-t)) ≡ largest-exponential
-unfolding powers next-power add mul div round pack finish spare inexact size span climb value _⊕_ _⊗_ _÷_ whole
+unfolding powers next-power rounded round pack finish spare inexact size span climb value _⊕_ _⊗_ _÷_ whole
 largest-is = refl
 
 smallest-is : whole 8 ≼ value smallest-end ⊗ whole (10 ^ 43)
@@ -54,14 +55,14 @@ smallest-is = record { le = le-by-compare _ _ tt }
 -- ---- the upper exponential is at most the one at t = 64
 
 -- the upper side at two values of t
-monotone : Within value (round true 32) value (round true 32) (λ w p q. p ≼ q)
-monotone = in-order value (round true 32) value (round true 32) (λ p q h. round-mono true 32 (lit< tt) h)
+monotone : Within (rounded true 32) (rounded true 32) (λ w x y. value x ≼ value y)
+monotone = of-values (side true 32) (side true 32) (in-order (λ p q h. round-mono true 32 (lit< tt) h))
 
 with-tail-mono : (t t′ : Scaled) → value t ≼ value t′ → value (with-tail t) ≼ value (with-tail t′)
 with-tail-mono t t′ h = round-mono true 32 (lit< tt) (add-mono (both (pred exponential-cut) .sum) (mul-mono (≼-refl (whole 2)) (both exponential-cut .r)))
   where
-    both : (k : ℕ) → Close-powers value (round true 32) value (round true 32) (λ w p q. p ≼ q) monotone one t one t′ (≼-refl _) h k (powers value (round true 32) one t k) (powers value (round true 32) one t′ k)
-    both k = powers-close value (round true 32) value (round true 32) (λ w p q. p ≼ q) monotone one t one t′ (≼-refl _) h k
+    both : (k : ℕ) → Close-powers monotone one t one t′ (≼-refl _) h k (powers (rounded true 32) one t k) (powers (rounded true 32) one t′ k)
+    both k = powers-close monotone one t one t′ (≼-refl _) h k
 
 exponential-most : (E : Encounter) → value (side-letters true E .t) ≼ whole largest-t → value (exponential-with-tail E) ≼ value largest-exponential
 unfolding exponential-with-tail exponential-sum r256 side-powers
@@ -83,7 +84,7 @@ start-least E b =
 
 -- the lower end of c(0) alone, which is the one at order 0 as at order 1
 first-end-least : {E : Encounter} → Accepted E → value smallest-end ≼ value (lower-end E 0)
-unfolding lower-end sum-to side-terms terms first side-start start
+unfolding lower-end sum-to side-terms terms first side-start start rounded
 first-end-least {E} h =
     round-mono false 32 (lit< tt)
     (quot-mono (round-mono false 32 (lit< tt) (start-least E (facts h .bounds))) (exponential-most E (facts h .t-max)) (with-tail-pos E))

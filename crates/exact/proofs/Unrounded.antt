@@ -5,7 +5,8 @@ use native.Mathlib.Omega.{arith}
 use Rattle.exact.specs.Fraction.{Frac, _≈_, _⊕_, _⊗_, _÷_, _↑_, whole, sum}
 use Rattle.exact.specs.declared.Encounter.{Encounter}
 use Rattle.exact.specs.Series.{u, h, X, Y, t, a₀, factorial, c, exponential-term, F-without-Y, F}
-use Rattle.exact.specs.Steps.{same, bound, LettersOf, TermsOf, PowersOf, add, mul, div, letters, first, next-c, next-p, next-v, next-y, next, terms, next-power, powers}
+use Rattle.exact.specs.Arithmetic.{unrounded}
+use Rattle.exact.specs.Steps.{bound, LettersOf, TermsOf, PowersOf, letters, first, next-c, next-p, next-v, next-y, next, terms, next-power, powers}
 use Rattle.exact.proofs.Fractions.{≈-refl, ≈-sym, ≈-trans, cong, add-cong, mul-cong, div-cong, zero-add, mul-comm, div-mul}
 use Rattle.exact.proofs.ExactTerms.{p, v, y, p-zero, v-zero, y-zero, c-zero, p-suc, v-suc, y-suc, c-suc, factorial-step}
 
@@ -13,8 +14,8 @@ use Rattle.exact.proofs.ExactTerms.{p, v, y, p-zero, v-zero, y-zero, c-
 abbrev pub exact-letters : Encounter → LettersOf Frac
 exact-letters E = record { u = u E; h = h E; X = X E; Y = Y E; t = t E }
 
-pub letters-are : (E : Encounter) → letters same same E ≡ exact-letters E
-unfolding letters mul add h X Y t
+pub letters-are : (E : Encounter) → letters unrounded E ≡ exact-letters E
+unfolding letters unrounded h X Y t
 letters-are E = refl
 
 module _ (E : Encounter) where
@@ -25,11 +26,11 @@ module _ (E : Encounter) where
     y-is : s .y ≈ y E n
     sum-is : s .sum ≈ sum (c E) (suc n)
 
-  next-is : (n : ℕ) (s : TermsOf Frac) → Same n s → Same (suc n) (next same same (exact-letters E) n s)
-  unfolding next next-c next-p next-v next-y add mul div sum
+  next-is : (n : ℕ) (s : TermsOf Frac) → Same n s → Same (suc n) (next unrounded (exact-letters E) n s)
+  unfolding next next-c next-p next-v next-y unrounded sum
   next-is n s k =
-      let c-ok : next-c same same (exact-letters E) n s ≈ c E (suc n) = grw (cong, k .p-is, k .v-is, k .y-is, k .c-is) (≈-sym (c-suc E n)) in
-      let v-ok : next-v same same (exact-letters E) n (next-c same same (exact-letters E) n s) s ≈ v E (suc n) =
+      let c-ok : next-c unrounded (exact-letters E) n s ≈ c E (suc n) = grw (cong, k .p-is, k .v-is, k .y-is, k .c-is) (≈-sym (c-suc E n)) in
+      let v-ok : next-v unrounded (exact-letters E) n (next-c unrounded (exact-letters E) n s) s ≈ v E (suc n) =
       ≈-trans (add-cong c-ok (div-cong (suc (suc n)) (mul-cong (≈-refl (h E)) (k .v-is)))) (≈-sym (v-suc E n)) in
       record {
         c-is = c-ok;
@@ -39,8 +40,8 @@ module _ (E : Encounter) where
         sum-is = add-cong (k .sum-is) c-ok;
       }
 
-  terms-are : (n : ℕ) → Same n (terms same same (exact-letters E) (a₀ E) n)
-  unfolding terms first mul sum
+  terms-are : (n : ℕ) → Same n (terms unrounded (exact-letters E) (a₀ E) n)
+  unfolding terms first unrounded sum
   terms-are zero =
       let e = c-zero E in
       record {
@@ -52,10 +53,10 @@ module _ (E : Encounter) where
       }
   terms-are (suc n) = next-is n _ (terms-are n)
 
-  pub term-is : (n : ℕ) → terms same same (exact-letters E) (a₀ E) n .c ≈ c E n
+  pub term-is : (n : ℕ) → terms unrounded (exact-letters E) (a₀ E) n .c ≈ c E n
   term-is n = terms-are n .c-is
 
-  pub sum-is : (n : ℕ) → terms same same (exact-letters E) (a₀ E) n .sum ≈ sum (c E) (suc n)
+  pub sum-is : (n : ℕ) → terms unrounded (exact-letters E) (a₀ E) n .sum ≈ sum (c E) (suc n)
   sum-is n = terms-are n .sum-is
 
 -- M with no rounding is F(0)
@@ -66,8 +67,8 @@ mul-one p = record { eq = omega arith }
 ones : (p q r s : Frac) → p ⊗ whole 1 ⊕ q ⊗ whole 1 ÷ 2 ⊕ r ⊗ whole 1 ⊗ whole 1 ⊕ s ≈ p ⊕ q ÷ 2 ⊕ r ⊕ s
 ones p q r s = grw (cong, mul-one p, mul-one q, mul-one (r ⊗ whole 1), mul-one r) (≈-refl _)
 
-pub bound-is : (E : Encounter) → bound same same (exact-letters E) ≈ F E 0
-unfolding bound add F F-without-Y _↑_
+pub bound-is : (E : Encounter) → bound unrounded (exact-letters E) ≈ F E 0
+unfolding bound unrounded F F-without-Y _↑_
 bound-is E = ≈-sym (ones (u E) (h E) (X E) (Y E))
 
 -- t^(k+1)/(k+1)! is t^k/k! × t/(k+1)
@@ -84,9 +85,9 @@ one-is : (t : Frac) → whole 1 ≈ exponential-term t 0
 unfolding exponential-term _↑_ factorial _÷_ whole
 one-is t = record { eq = refl }
 
-pub powers-are : (t : Frac) (k : ℕ) → Same-powers t k (powers same same (whole 1) t k)
-unfolding powers next-power div mul add sum
+pub powers-are : (t : Frac) (k : ℕ) → Same-powers t k (powers unrounded (whole 1) t k)
+unfolding powers next-power unrounded sum
 powers-are t zero = record { r-is = one-is t; sum-is = ≈-trans (one-is t) (≈-sym (zero-add _)) }
 powers-are t (suc k) =
-    let x : powers same same (whole 1) t k .r ⊗ t ÷ suc k ≈ exponential-term t (suc k) = grw (cong, powers-are t k .r-is) (≈-sym (power-step t k)) in
+    let x : powers unrounded (whole 1) t k .r ⊗ t ÷ suc k ≈ exponential-term t (suc k) = grw (cong, powers-are t k .r-is) (≈-sym (power-step t k)) in
     record { r-is = x; sum-is = add-cong (powers-are t k .sum-is) x }

@@ -2,12 +2,13 @@
 -- an upper.
 use mathlib.Core.Path.{_≡_}
 use mathlib.Core.Bool.{Bool, true, false, cond}
-use Prim.Native.Nat.{ℕ, zero, suc, _+_, _-_, _/_, _^_, _≤_, _<_}
+use Prim.Native.Nat.{ℕ, suc, _+_, _-_, _/_, _^_, _≤_, _<_}
 use lib.Dec.{ltb, eqb}
 use Rattle.exact.specs.declared.Scaled.{Scaled}
 use Rattle.exact.specs.declared.Decimal.{Decimal}
 use Rattle.exact.specs.Fraction.{Frac, _≼_, _⊕_, _⊗_, _over_, whole, at-most, above}
 use Rattle.exact.specs.Scaled.{value}
+use Rattle.exact.specs.Least.{least}
 use Rattle.exact.specs.Private.Round.{round}
 
 -- "A table of 10^0 to 10^46": the number of its entries
@@ -25,11 +26,6 @@ times-power up x k = round up 32 (value x ⊗ value (entry up k))
 -- whether that "is at least 1,000"
 unfoldable pub reaches : Bool → Scaled → ℕ → Bool
 reaches up x k = at-most (whole 1000) (value (times-power up x k))
-
--- the least of 0, .., n − 1 for which f is true; n where there is none
-unfoldable pub least : (ℕ → Bool) → ℕ → ℕ
-least f zero = 0
-least f (suc n) = cond (f 0) 0 (suc (least (λ k. f (suc k)) n))
 
 -- "take the least k for which the end times the table's 10^k is at least 1,000"; 47 where the table has none
 unfoldable pub least-power : Bool → Scaled → ℕ

@@ -1,10 +1,13 @@
 pub mod Integer
 pub mod Fraction
 pub mod Numbers
+pub mod Least
 pub mod Private
 pub mod Scaled
 pub mod Series
+pub mod Arithmetic
 pub mod Steps
+pub mod Losses
 pub mod Records
 pub mod Refusals
 pub mod Decimals

@@ -1,4 +1,4 @@
-// The scaled number of document 01, with the constants and the constructor that belong to it, the five inputs of an encounter, a conjunction, a decimal, and the paper's limits.
+// The scaled number of document 01, with the constants and the constructor that belong to it, one with its losses, the five inputs of an encounter, a conjunction, a decimal, and the paper's limits.
 // All else in this crate is definitions (specs/) and theorems (proofs/).
 ghost use mathlib.Core.Path.{_≡_};
 ghost use mathlib.Core.Bool.{false};
@@ -42,6 +42,12 @@ pub struct Conjunction {
 pub struct Scaled {
     pub m: u32,
     pub e: i32,
+}
+
+// Request #105: a number, and whether something was lost on its way.
+pub struct Traced {
+    pub number: Scaled,
+    pub lost: bool,
 }
 
 // d.ddd × 10^-power, where digits is dddd.

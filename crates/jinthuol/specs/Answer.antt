@@ -15,7 +15,7 @@ class-number Open = 2
 
 -- the answer, with its class as a number
 unfoldable pub numbered : WithClass → Answer
-numbered a = record { refusal = a .refusal; N = a .N; lower = a .lower; upper = a .upper; class = class-number (a .class); object = a .object; time = a .time }
+numbered a = record { refusal = a .refusal; N = a .N; lower = a .lower; upper = a .upper; class = class-number (a .class); object = a .object; time = a .time; exact = a .exact }
 
 -- a call's answer so, and the session after it
 unfoldable pub called : CalledWithClass → Called

@@ -20,7 +20,7 @@ use listing::script::put_lines;
 use listing::script::put_too_long;
 
 // The version of the functions below and their structs; bindings/c/jinthuol.h has the same number.
-pub const VERSION: u32 = 4;
+pub const VERSION: u32 = 5;
 
 // An answer, with its class as a number.
 #[repr(C)]
@@ -32,6 +32,7 @@ pub struct Answer {
     pub class: u32,
     pub object: u32,
     pub time: u32,
+    pub exact: u32,
 }
 
 // The answer of a call, and the session after it.
@@ -71,6 +72,7 @@ fn answer_of(a: state::Answer) -> Answer
         class: number(class),
         object: a.object,
         time: a.time,
+        exact: a.exact,
     }
 }
 

@@ -37,6 +37,7 @@ pub record AnswerRange (a : Answer) : Type 0 where
   pub upper : ScaledRange (a .upper)
   pub object : a .object < 2 ^ 32
   pub time : a .time < 2 ^ 32
+  pub exact : a .exact < 2 ^ 32
 
 scaled-range : (x : Scaled) (vs : List Val) → Is (row S.the-type) x vs → ScaledRange x
 scaled-range x vs h = let f = laws.owed S.the-type S′.the-laws x vs h in record { m = f .0 .1; e = f .1 .0 .1 }
@@ -51,6 +52,7 @@ answer-range a vs h =
       upper = scaled-range _ _ (f .1 .1 .1 .0);
       object = f .1 .1 .1 .1 .1 .0 .1;
       time = f .1 .1 .1 .1 .1 .1 .0 .1;
+      exact = f .1 .1 .1 .1 .1 .1 .1 .0 .1;
     }
 
 -- ---- the longest texts of the parts, and of a line
@@ -89,6 +91,7 @@ module _ (offset kind : ℕ) (a : Answer) (o : offset < 2 ^ 64) (r : AnswerRange
     nine true (a .upper),
     decimal-10 (a .object) (r .object),
     decimal-10 (a .time) (r .time),
+    decimal-10 (a .exact) (r .exact),
   ))
 
   -- the sum of the longest parts is at most the room

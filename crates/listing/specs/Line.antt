@@ -64,9 +64,9 @@ ends-in-decimal a = decimal-text (lower-decimal a) ++ ascii " " ++ decimal-text 
 unfoldable pub object-and-time : Answer → List ℕ
 object-and-time a = number-text (a .object) ++ ascii " " ++ number-text (a .time)
 
--- request #103: "Anything a ticket adds to the read line or to a read's answer is printed at the line's end, in ticket order."
+-- request #103: "Anything a ticket adds to the read line or to a read's answer is printed at the line's end, in ticket order." The last is the count of request #105.
 unfoldable pub added-fields : Answer → List ℕ
-added-fields a = ends-in-decimal a ++ ascii " " ++ object-and-time a
+added-fields a = ends-in-decimal a ++ ascii " " ++ object-and-time a ++ ascii " " ++ number-text (a .exact)
 
 -- "`read N ml el mh eh class`", and what requests add
 unfoldable pub read-text : Answer → List ℕ

@@ -174,7 +174,9 @@ fn put_added_fields(out: &mut [u8], at: usize, a: Answer) -> usize
 {
     let k = put_ends_in_decimal(out, at, a);
     let l = put(out, k, b" ");
-    put_object_and_time(out, l, a)
+    let m = put_object_and_time(out, l, a);
+    let n = put(out, m, b" ");
+    put_word(out, n, a.exact)
 }
 
 // What a read answered.

@@ -82,6 +82,7 @@ pub fn put_too_long(out: &mut [u8]) -> usize
         class: Class::Clear,
         object: 0,
         time: 0,
+        exact: 0,
     };
     put_line(out, 0, 0, 0, answer)
 }

@@ -57,19 +57,21 @@ module _ (m k p R : ℕ) (ml : m < 2 ^ 32) (kp : 0 < k) (kl : k ≤ 2 ^ 25) (abo
       let b : m * R < 2 ^ 63 * Q + 2 ^ 63 = lt-of-mul-lt-mul-right k (omega (arith, under, ap (λ (x : ℕ). 2 ^ 63 * x) shape)) in
       (omega (arith, h-high), omega (arith, h-low))
 
-  pub by-reciprocal : (up : Bool) → whole-part up (h / 2147483648) (ltb 0 (h % 2147483648)) ≡ whole-part up (n / k) (ltb 0 (n % k))
+  -- the same whole part, and a rest or none
+  pub by-reciprocal : (up : Bool)
+      → (whole-part up (h / 2147483648) (ltb 0 (h % 2147483648)) ≡ whole-part up (n / k) (ltb 0 (n % k))) × (ltb 0 (h % 2147483648) ≡ ltb 0 (n % k))
   by-reciprocal up =
       ⊎-elim
       (λ z.
       let e = exact z in
       let q : h / 2147483648 ≡ Q = omega (arith, e) in
       let s : h % 2147483648 ≡ 0 = omega (arith, e) in
-      rw (q, s, z))
+      (rw (q, s, z), rw (s, z)))
       (λ r.
       let b = between r in
       let q : h / 2147483648 ≡ Q = omega (arith, b) in
       let s : 0 < h % 2147483648 = omega (arith, b) in
-      rw (q, lt-ltb 0 (h % 2147483648) s, lt-ltb 0 (n % k) r))
+      (rw (q, lt-ltb 0 (h % 2147483648) s, lt-ltb 0 (n % k) r), rw (lt-ltb 0 (h % 2147483648) s, lt-ltb 0 (n % k) r)))
       (eq-zero-or-pos (n % k))
 
 -- ---- how the code forms it
@@ -133,5 +135,7 @@ module _ (m : ℕ) (ml : m < 2 ^ 32) (r : Reciprocal) (i : IsReciprocal r) where
   pub low-product : m * r .low < 2 ^ 64
   low-product = omega (arith, mul-le-mul-left m (i .low-fits))
 
-  pub quotient-is : (up : Bool) → whole-part up (m * all / 2 ^ 32 / 2147483648) (ltb 0 (m * all / 2 ^ 32 % 2147483648)) ≡ whole-part up (m * 2 ^ r .bits / r .k) (ltb 0 (m * 2 ^ r .bits % r .k))
+  pub quotient-is : (up : Bool)
+      → (whole-part up (m * all / 2 ^ 32 / 2147483648) (ltb 0 (m * all / 2 ^ 32 % 2147483648)) ≡ whole-part up (m * 2 ^ r .bits / r .k) (ltb 0 (m * 2 ^ r .bits % r .k)))
+      × (ltb 0 (m * all / 2 ^ 32 % 2147483648) ≡ ltb 0 (m * 2 ^ r .bits % r .k))
   quotient-is = by-reciprocal m (r .k) (2 ^ r .bits) all ml (i .some) (i .small) (i .above) (i .near)

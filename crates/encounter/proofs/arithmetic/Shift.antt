@@ -1,11 +1,21 @@
 -- A number below 2^63 is shifted down by g bits, or by 63 where g is more: both leave the same.
 use mathlib.Core.Path.{_≡_, sym, _∙_}
 use mathlib.Core.Logic.{⊎-elim}
-use Prim.Native.Nat.{ℕ, _/_, _%_, _^_, _≤_, _<_, min}
-use native.Mathlib.Nat.{div-eq-of-lt, mod-eq-of-lt, lt-of-lt-of-le}
+use Prim.Native.Nat.{ℕ, _*_, _/_, _%_, _^_, _≤_, _<_, min}
+use native.Mathlib.Nat.{div-eq-of-lt, mod-eq-of-lt, lt-of-lt-of-le, div-add-mod', eq-zero-or-pos}
 use native.Mathlib.Omega.{arith}
+use borrow.Author.Tests.{lt-ltb, le-ltb}
+use lib.Dec.{ltb}
 use lib.Pow.{pow-mono}
 use Rattle.exact.proofs.Fractions.{lt-or-le}
+
+-- the bits of y from s on, put back, are below y just where a rest is left
+pub left-over : (y s : ℕ) → ltb (y / 2 ^ s * 2 ^ s) y ≡ ltb 0 (y % 2 ^ s)
+left-over y s =
+    let e = div-add-mod' y (2 ^ s) in
+    let b = y / 2 ^ s * 2 ^ s in
+    let r = y % 2 ^ s in
+    ⊎-elim (λ z. le-ltb b y (omega (arith, e)) ∙ sym (le-ltb 0 r (omega arith))) (λ p. lt-ltb b y (omega (arith, e)) ∙ sym (lt-ltb 0 r p)) (eq-zero-or-pos r)
 
 module _ (y g : ℕ) (small : y < 2 ^ 63) where
   under : g < 63 → min g 63 ≡ g

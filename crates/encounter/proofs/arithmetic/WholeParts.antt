@@ -3,19 +3,27 @@ use mathlib.Core.Path.{_≡_, refl, sym, _∙_, ap}
 use mathlib.Core.Bool.{Bool, true, false, cond, _&&_, _||_}
 use mathlib.Core.Logic.{⊎-elim}
 use Prim.Native.Nat.{ℕ, zero, suc, _+_, _-_, _*_, _/_, _%_, _^_, _≤_, _<_}
-use native.Mathlib.Nat.{div-eq-of-lt, div-lt-iff-lt-mul, mul-add-div-right, div-add-mod', mod-lt, eq-zero-or-pos}
+use native.Mathlib.Nat.{zero-mul, div-eq-of-lt, div-lt-iff-lt-mul, mul-add-div-right, div-add-mod', mod-lt, eq-zero-or-pos}
 use native.Mathlib.Omega.{arith}
 use borrow.Author.Tests.{lt-ltb, le-ltb}
 use lib.Dec.{ltb}
 use lib.IntN.{ℤ, pos, _+ℤ_}
+use lib.Ieee.{size}
 use Rattle.exact.specs.declared.Scaled.{Scaled}
 use Rattle.exact.specs.Scaled.{scaled}
-use Rattle.exact.specs.Private.Round.{finish, pack}
+use Rattle.exact.specs.Private.Round.{inexact, finish, pack}
 use Rattle.exact.proofs.Integers.{balanced, bal-add}
 use Rattle.exact.proofs.Fractions.{lt-or-le}
 use Rattle.exact.proofs.Bits.{size-is}
-use Rattle.exact.proofs.Packing.{pack-is, finish-off, finish-carry, finish-next}
+use Rattle.exact.proofs.Packing.{pack-is, inexact-is, finish-off, finish-carry, finish-next}
 use Rattle.encounter.specs.Private.Loops.{whole-part}
+
+-- whether a rest r is left
+pub rest-none : (r : ℕ) → r ≡ 0 → false ≡ ltb 0 r
+rest-none r z = sym (le-ltb 0 r (omega arith))
+
+pub rest-some : (r : ℕ) → (r ≡ 0 → ⊥) → true ≡ ltb 0 r
+rest-some r p = sym (lt-ltb 0 r (omega (arith, p)))
 
 pub whole-down : (h : ℕ) (s : Bool) → whole-part false h s ≡ h
 unfolding whole-part
@@ -176,6 +184,47 @@ module _ (h : ℕ) (e : ℤ) (low : 2 ^ 31 ≤ h) where
       ap (finish 32 (h / 2) (e +ℤ pos 1)) (lt-ltb 0 (h % 2) p) ∙ finish-next 32 (h / 2) (e +ℤ pos 1) (λ z. omega arith) ∙ sym (halves true h e l (omega arith) ∙ rw q))
       (eq-zero-or-pos (h % 2)))
       (lt-or-le h (2 ^ 32))
+
+none-whole : (up : Bool) (h : ℕ) → whole-part up h false ≡ h
+none-whole false h = whole-down h false
+none-whole true h = whole-all h
+
+-- a last bit is dropped where there are 33
+module _ (h : ℕ) (low : 2 ^ 31 ≤ h) where
+  some : 0 < h
+  some = omega arith
+
+  bits-short : h < 2 ^ 32 → size h ≡ 32 + 0
+  bits-short l = size-is h 32 l (omega arith)
+
+  bits-long : 2 ^ 32 ≤ h → h < 2 ^ 33 → size h ≡ 32 + 1
+  bits-long l k = size-is h 33 k (omega arith)
+
+  short-keeps : h < 2 ^ 32 → inexact 32 h false ≡ false
+  short-keeps l = let r : h % 2 ^ 0 ≡ 0 = omega arith in inexact-is false 32 h 0 (pos 0) false some (bits-short l) ∙ rw r
+
+  long-drops : 2 ^ 32 ≤ h → h < 2 ^ 33 → inexact 32 h false ≡ ltb 0 (h % 2)
+  long-drops l k = inexact-is false 32 h 1 (pos 0) false some (bits-long l k)
+
+  drops : h < 2 ^ 33 → ltb 0 (h / 4294967296 * h % 2) ≡ inexact 32 h false
+  drops k =
+      ⊎-elim
+      (λ l.
+      let q : h / 4294967296 ≡ 0 = omega arith in
+      let z : 0 * h % 2 ≡ 0 = rw (zero-mul h) in
+      rw (q, z) (sym (short-keeps l)))
+      (λ l.
+      let q : h / 4294967296 ≡ 1 = omega arith in
+      let one : 1 * h ≡ h = omega arith in
+      let w : 1 * h % 2 ≡ h % 2 = ap (λ (x : ℕ). x % 2) one in
+      rw (q, w) (sym (long-drops l k)))
+      (lt-or-le h (2 ^ 32))
+
+-- what `fit` says of losses
+pub fit-loses : (up : Bool) (h : ℕ) (s : Bool) → 2 ^ 31 ≤ h → whole-part up h s + 1 < 2 ^ 33
+    → (s || ltb 0 (whole-part up h s / 4294967296 * whole-part up h s % 2)) ≡ inexact 32 h s
+fit-loses up h true low k = unfold inexact in refl
+fit-loses up h false low k = rw (none-whole up h) (drops h low (omega (arith, none-whole up h)))
 
 pub fit-packs : (up : Bool) (h : ℕ) (e : ℤ) (s : Bool) → 2 ^ 31 ≤ h → whole-part up h s + 1 < 2 ^ 33 → fitted up (whole-part up h s) e ≡ pack up 32 h e s
 fit-packs false h e s low k = rw (whole-down h s) (sym (down-packs h e low s (rw (whole-down h s) at k)))

@@ -9,6 +9,7 @@ use lib.IntN.{ℤ, pos, negsuc}
 use lib.Signed.{ltZ}
 use Rattle.exact.specs.declared.Encounter.{Encounter}
 use Rattle.exact.specs.declared.Scaled.{Scaled}
+use Rattle.exact.specs.Losses.{exact-terms}
 use Rattle.exact.specs.Numbers.{largest-length, largest-order}
 use Rattle.exact.specs.Private.Ranges.{tests-3-to-6, Bounds}
 use Rattle.exact.specs.Steps.{lower-end, upper-end}
@@ -222,7 +223,7 @@ module _ (s : Session) where
     pub read-taken : {a : Answer} → refuses-23 (s .encounter) (s .N) ≡ false → a ≡ bracket (conjunction-of s) (s .N) → a ≡ call reads s .answer
     read-taken r f = answer-of (taken-is s read (unfold refusal in rw (history-some s some, r)) (rw (history-some s some) f) refl)
 
-  pub bracket-is : {x y : Scaled} {k : Class} → x ≡ lower-end (s .encounter) (s .N) → y ≡ upper-end (s .encounter) (s .N) → k ≡ class-of x y
-      → record { refusal = 0; N = s .N; lower = x; upper = y; class = k; object = s .object; time = s .time } ≡ bracket (conjunction-of s) (s .N)
+  pub bracket-is : {x y : Scaled} {k : Class} → s .exact ≡ exact-terms (s .encounter) (s .N) → x ≡ lower-end (s .encounter) (s .N) → y ≡ upper-end (s .encounter) (s .N) → k ≡ class-of x y
+      → record { refusal = 0; N = s .N; lower = x; upper = y; class = k; object = s .object; time = s .time; exact = s .exact } ≡ bracket (conjunction-of s) (s .N)
   unfolding bracket
-  bracket-is ex ey ek = rw (ek, ex, ey)
+  bracket-is e ex ey ek = rw (ek, ex, ey, e)

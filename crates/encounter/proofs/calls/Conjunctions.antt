@@ -51,7 +51,7 @@ module _ (C : Conjunction) (s : Session) {r : Called} (f : r ≡ call (begins (C
 
     -- the encounter's session, with object and time put in
     abbrev with-object : Session → Session
-    with-object t = record { encounter = t .encounter; object = C .object; time = C .time; N = t .N; lower = t .lower; upper = t .upper; r256 = t .r256; M = t .M; d = t .d }
+    with-object t = record { encounter = t .encounter; object = C .object; time = C .time; N = t .N; lower = t .lower; upper = t .upper; r256 = t .r256; M = t .M; d = t .d; exact = t .exact; lossless = t .lossless }
 
     pub conjunction-taken : record { answer = r .answer; session = with-object (r .session) } ≡ call (begins-conjunction C) s
     unfolding state

@@ -7,6 +7,7 @@ use native.Mathlib.Nat.{eq-zero-or-pos, add-zero}
 use native.Mathlib.Omega.{arith}
 use borrow.Author.Tests.{ltb-false, le-ltb, ne-eqb}
 use Rattle.exact.specs.declared.Conjunction.{Conjunction}
+use Rattle.exact.specs.Losses.{exact-terms}
 use Rattle.exact.specs.Numbers.{largest-order}
 use Rattle.exact.specs.Records.{Request, begin, begin-conjunction, add, read, bad}
 use Rattle.exact.specs.Refusals.{Accepted, History, no-encounter, encounter-at, refuses-22, refuses-23, refusal}
@@ -60,7 +61,7 @@ kept {s} {w} h q = by-cases w q s (λ r v. Whole (r .session) v) (taken-whole h 
 
 -- an accepted read
 Read : History → Called → Type 0
-Read w r = (C : Conjunction) × (N : ℕ) × (w ≡ encounter-at C N) × Encloses (C .encounter) N (r .answer) × Named C (r .answer)
+Read w r = (C : Conjunction) × (N : ℕ) × (w ≡ encounter-at C N) × Encloses (C .encounter) N (r .answer) × Named C (r .answer) × (r .answer .exact ≡ exact-terms (C .encounter) N)
 
 not-zero : {A : Type 0} (n : ℕ) → suc n ≡ 0 → A
 not-zero n z = let f : ⊥ = omega arith in absurd f
@@ -80,6 +81,7 @@ enclosing (at {C} {N} h l u) z = unfold outcome refusal bracket in rw z (
     close = ends-close (h .fine) N l;
   },
   record { object-is = refl; time-is = refl },
+  refl,
 )
 
 -- a call on such a session is what the history tells
@@ -113,10 +115,13 @@ pub whole : {s : Session} → Reached s → (w : History) × Whole s w
 whole from-empty = (no-encounter, nothing)
 whole (after r c) = let (w, h) = whole r in (_, keeps h c)
 
-begun-whole : {s : Session} {w : History} → Whole s w → (s .N ≡ 0 → ⊥) → Begun s
+pub state-begun : (C : Conjunction) {N : ℕ} → Accepted (C .encounter) → 1 ≤ N → N ≤ largest-order → Begun (state C N)
 unfolding state
+state-begun C h l u = record { fine = h; low = l; high = u; is = refl }
+
+begun-whole : {s : Session} {w : History} → Whole s w → (s .N ≡ 0 → ⊥) → Begun s
 begun-whole nothing z = absurd (z refl)
-begun-whole (at h l u) z = record { fine = h .fine; low = l; high = u; is = refl }
+begun-whole (at {C} h l u) z = unfold state in state-begun C (h .fine) l u
 
 pub begun : (s : Session) → Reached s → (s .N ≡ 0 → ⊥) → Begun s
 begun s r z = begun-whole (whole r .1) z

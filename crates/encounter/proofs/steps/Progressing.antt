@@ -5,11 +5,10 @@ use Prim.Native.Nat.{ℕ, zero, suc, pred, _+_, _-_, _*_, _^_, _≤_, _<_}
 use native.Mathlib.Numerals.{add-one}
 use native.Mathlib.Omega.{arith}
 use Rattle.exact.specs.declared.Scaled.{Scaled}
-use Rattle.exact.specs.Scaled.{value}
 use Rattle.exact.specs.Private.Ranges.{InRange, Letters-in, Terms-in}
-use Rattle.exact.specs.Private.Round.{round}
 use Rattle.exact.specs.Numbers.{largest-order}
 use Rattle.exact.specs.declared.Encounter.{Encounter}
+use Rattle.exact.specs.Arithmetic.{rounded}
 use Rattle.exact.specs.Steps.{LettersOf, TermsOf, next, next-d, terms, tail-term, side-letters, side-start, side-terms, M, d}
 use Rattle.exact.proofs.Accepted.{facts}
 use Rattle.exact.proofs.Ranges.{widen}
@@ -22,7 +21,7 @@ use Rattle.encounter.specs.declared.arithmetic.wide.Wide.{Wide}
 use Rattle.encounter.specs.declared.steps.sides.LetterPairs.{LetterPairs}
 use Rattle.encounter.specs.declared.steps.sides.TermPairs.{TermPairs}
 use Rattle.encounter.specs.Session.{side, state, conjunction-of}
-use Rattle.encounter.specs.Private.Held.{held-letters, step-letters, held-terms, step-terms, progress, Begun}
+use Rattle.encounter.specs.Private.Held.{held-letters, step-letters, held-terms, step-terms, progress, with-losses, Begun}
 use Rattle.encounter.specs.Private.Loops.{narrow, letters-of, terms-of}
 use Rattle.encounter.proofs.steps.Pairs.{by-side}
 
@@ -120,18 +119,18 @@ module _ {s : Session} (b : Begun s) {l : LetterPairs} {m : Wide} {t : TermPairs
 
 module _ (E : Encounter) (n : ℕ) where
   next-side : (up : Bool) {l : LettersOf Scaled} {t r : TermsOf Scaled} → l ≡ side-letters up E → t ≡ side-terms up E n
-      → r ≡ next value (round up 32) l n t → r ≡ side-terms up E (n + 1)
+      → r ≡ next (rounded up 32) l n t → r ≡ side-terms up E (n + 1)
   unfolding side-terms terms
   next-side up el et er = er ∙ rw (el, et, add-one)
 
-  next-d-is : {m x r : Scaled} → m ≡ M E → x ≡ d E (suc n) → r ≡ next-d value (round true 32) m (n + 1) x → r ≡ d E (suc (n + 1))
+  next-d-is : {m x r : Scaled} → m ≡ M E → x ≡ d E (suc n) → r ≡ next-d (rounded true 32) m (n + 1) x → r ≡ d E (suc (n + 1))
   unfolding d tail-term
   next-d-is em ex er = er ∙ rw (em, ex, add-one)
 
   -- one term more
   pub next-holds : {l : LetterPairs} {m : Wide} {t t′ : TermPairs} {x x′ : Wide} → Holds E l m t x n
-      → ((up : Bool) → terms-of up t′ ≡ next value (round up 32) (letters-of up l) n (terms-of up t))
-      → narrow x′ ≡ next-d value (round true 32) (narrow m) (n + 1) (narrow x)
+      → ((up : Bool) → terms-of up t′ ≡ next (rounded up 32) (letters-of up l) n (terms-of up t))
+      → narrow x′ ≡ next-d (rounded true 32) (narrow m) (n + 1) (narrow x)
       → Holds E l m t′ x′ (n + 1)
   next-holds h et ex = record {
     letters-are = h .letters-are;
@@ -151,12 +150,13 @@ module _ (E : Encounter) (n : ℕ) where
       let c = ey ∙ h .tail-is in
       λ i. record { lower = a i; upper = b i; d = c i }
 
--- the session after an add, by its fields
+-- the session after the terms of an add, by its fields: its count of exact terms and its losses are still those before
 module _ (s : Session) (b : Begun s) where
   at-index : (n : ℕ) (p : Progress) (lo hi : Side) → p ≡ progress (s .encounter) n
       → lo ≡ record { letters = s .lower .letters; exponential = s .lower .exponential; terms = p .lower }
       → hi ≡ record { letters = s .upper .letters; exponential = s .upper .exponential; terms = p .upper }
-      → record { encounter = s .encounter; object = s .object; time = s .time; N = suc n; lower = lo; upper = hi; r256 = s .r256; M = s .M; d = p .d } ≡ state (conjunction-of s) (suc n)
+      → record { encounter = s .encounter; object = s .object; time = s .time; N = suc n; lower = lo; upper = hi; r256 = s .r256; M = s .M; d = p .d; exact = s .exact; lossless = s .lossless }
+      ≡ with-losses (state (conjunction-of s) (suc n)) (s .exact) (s .lossless)
   unfolding state side progress
   at-index n p lo hi e f g =
       let le = ap (λ (x : Session). x .lower .exponential) (b .is) in
@@ -167,6 +167,7 @@ module _ (s : Session) (b : Begun s) where
   pub added-is : (N : ℕ) (p : Progress) (lo hi : Side) → 1 ≤ N → p ≡ progress (s .encounter) (N - 1)
       → lo ≡ record { letters = s .lower .letters; exponential = s .lower .exponential; terms = p .lower }
       → hi ≡ record { letters = s .upper .letters; exponential = s .upper .exponential; terms = p .upper }
-      → record { encounter = s .encounter; object = s .object; time = s .time; N = N; lower = lo; upper = hi; r256 = s .r256; M = s .M; d = p .d } ≡ state (conjunction-of s) N
+      → record { encounter = s .encounter; object = s .object; time = s .time; N = N; lower = lo; upper = hi; r256 = s .r256; M = s .M; d = p .d; exact = s .exact; lossless = s .lossless }
+      ≡ with-losses (state (conjunction-of s) N) (s .exact) (s .lossless)
   added-is zero p lo hi l e f g = let f : ⊥ = omega arith in absurd f
   added-is (suc n) p lo hi l e f g = let k : suc n - 1 ≡ n = omega arith in at-index n p lo hi (rw k at e) f g

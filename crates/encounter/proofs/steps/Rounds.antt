@@ -13,7 +13,8 @@ use Rattle.exact.specs.Refusals.{Accepted}
 use Rattle.exact.specs.Scaled.{one, value}
 use Rattle.exact.specs.Private.Ranges.{InRange, Powers-in}
 use Rattle.exact.specs.Private.Round.{round}
-use Rattle.exact.specs.Steps.{PowersOf, add, next-power, powers, side-letters, side-powers}
+use Rattle.exact.specs.Arithmetic.{rounded}
+use Rattle.exact.specs.Steps.{PowersOf, next-power, powers, side-letters, side-powers}
 use Rattle.exact.proofs.Accepted.{facts}
 use Rattle.exact.proofs.Exponents.{letters-in, powers-in}
 use Rattle.exact.proofs.Ranges.{widen}
@@ -46,7 +47,7 @@ module _ (up : Bool) (E : Encounter) (k : ℕ) {t r : Scaled} {w : PowersOf Scal
   next-r-is = rw (er, ew, et)
 
   next-powers : {s : Scaled} → s ≡ round up 32 (value (w .sum) ⊕ value r) → record { r = r; sum = s } ≡ side-powers up E (suc k)
-  unfolding side-powers powers next-power add
+  unfolding side-powers powers next-power rounded
   next-powers es = rw (es, er, ew, et)
 
 -- ---- both sides at k

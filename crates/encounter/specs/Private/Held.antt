@@ -1,18 +1,25 @@
 -- The session's structs and the steps' records into each other, what an add changes, both t of an encounter, and what the premise of a call comes to. Private
 -- functions ask for these.
 use mathlib.Core.Path.{_≡_}
-use mathlib.Core.Bool.{true, false}
+use mathlib.Core.Bool.{Bool, true, false}
 use Prim.Native.Nat.{ℕ, suc, _≤_}
 use Rattle.exact.specs.declared.Encounter.{Encounter}
 use Rattle.exact.specs.declared.Scaled.{Scaled}
 use Rattle.exact.specs.Numbers.{largest-order}
-use Rattle.exact.specs.Steps.{LettersOf, TermsOf, side-letters, side-terms, d}
+use Rattle.exact.specs.declared.Traced.{Traced}
+use Rattle.exact.specs.Arithmetic.{traced}
+use Rattle.exact.specs.Steps.{LettersOf, TermsOf, next, side-letters, side-terms, d}
+use Rattle.exact.specs.Losses.{operand-lost}
+use Rattle.exact.specs.Private.Ways.{clean-letters, clean-terms}
 use Rattle.exact.specs.Refusals.{Accepted}
 use Rattle.encounter.specs.declared.state.Letters.{Letters}
 use Rattle.encounter.specs.declared.state.Terms.{Terms}
 use Rattle.encounter.specs.declared.state.Session.{Session}
 use Rattle.encounter.specs.declared.state.Called.{Called}
 use Rattle.encounter.specs.declared.state.Taken.{Taken}
+use Rattle.encounter.specs.declared.steps.losses.Losses.{Losses}
+use Rattle.encounter.specs.declared.steps.losses.TracedLetters.{TracedLetters}
+use Rattle.encounter.specs.declared.steps.losses.TracedTerms.{TracedTerms}
 use Rattle.encounter.specs.declared.steps.progress.Progress.{Progress}
 use Rattle.encounter.specs.Session.{state, conjunction-of}
 
@@ -28,7 +35,35 @@ held-terms s = record { c = s .c; p = s .p; v = s .v; y = s .y; sum = s .sum }
 abbrev pub step-terms : Terms → TermsOf Scaled
 step-terms s = record { c = s .c; p = s .p; v = s .v; y = s .y; sum = s .sum }
 
--- what an add changes, at order n + 1
+-- the same, each with whether something was lost on its way
+abbrev pub way-letters : TracedLetters → LettersOf Traced
+way-letters l = record { u = l .u; h = l .h; X = l .X; Y = l .Y; t = l .t }
+
+abbrev pub way-terms : TracedTerms → TermsOf Traced
+way-terms s = record { c = s .c; p = s .p; v = s .v; y = s .y; sum = s .sum }
+
+-- one index on, from letters l and terms s of index n on whose way nothing was lost: what was lost on the way to the term, and to what the next one is formed of
+pub record Clean-losses (up : Bool) (l : LettersOf Scaled) (s : TermsOf Scaled) (n : ℕ) (r : Losses) : Type 0 where
+  pub term-is : r .term ≡ next (traced up 32) (clean-letters l) n (clean-terms s) .c .lost
+  pub operand-is : r .operand ≡ operand-lost (clean-letters l) (next (traced up 32) (clean-letters l) n (clean-terms s))
+
+-- a session with another count of exact terms and other losses
+abbrev pub with-losses : Session → ℕ → ℕ → Session
+with-losses s exact lossless = record {
+  encounter = s .encounter;
+  object = s .object;
+  time = s .time;
+  N = s .N;
+  lower = s .lower;
+  upper = s .upper;
+  r256 = s .r256;
+  M = s .M;
+  d = s .d;
+  exact = exact;
+  lossless = lossless;
+}
+
+-- what the terms of an add change, at order n + 1
 unfoldable pub progress : Encounter → ℕ → Progress
 progress E n = record { lower = held-terms (side-terms false E n); upper = held-terms (side-terms true E n); d = d E (suc n) }
 

@@ -6,12 +6,16 @@ use Prim.Native.Nat.{ℕ, suc, _+_, _*_, _^_, _≤_, _<_}
 use lib.IntN.{ℤ, pos, _-ℤ_}
 use lib.Ieee.{size}
 use Rattle.exact.specs.declared.Scaled.{Scaled}
-use Rattle.exact.specs.Scaled.{scaled, value, Normal}
-use Rattle.exact.specs.Private.Round.{pack, round}
+use Rattle.exact.specs.Fraction.{Frac}
+use Rattle.exact.specs.Scaled.{scaled, Normal, lost}
+use Rattle.exact.specs.Private.Round.{inexact, pack, round}
 use Rattle.exact.specs.declared.Encounter.{Encounter}
 use Rattle.exact.specs.Refusals.{Accepted}
-use Rattle.exact.specs.Steps.{LettersOf, TermsOf, PowersOf, mul, div, side-letters, side-powers}
+use Rattle.exact.specs.Arithmetic.{rounded}
+use Rattle.exact.specs.Steps.{LettersOf, TermsOf, PowersOf, side-letters, side-powers}
+use Rattle.encounter.specs.declared.arithmetic.rounding.Whole.{Whole}
 use Rattle.encounter.specs.declared.arithmetic.wide.Wide.{Wide}
+use Rattle.encounter.specs.declared.arithmetic.wide.Rounded.{Rounded}
 use Rattle.encounter.specs.declared.arithmetic.wide.Reciprocal.{Reciprocal}
 use Rattle.encounter.specs.declared.steps.sides.Pair.{Pair}
 use Rattle.encounter.specs.declared.steps.sides.LetterPairs.{LetterPairs}
@@ -26,9 +30,17 @@ narrow x = scaled (x .m) (x .e)
 unfoldable pub whole-part : Bool → ℕ → Bool → ℕ
 whole-part up h s = h + cond (up && s) 1 0
 
--- x is the rounding of h × 2^e and a rest below 2^e, whatever the h and the rest of which a is the whole part
-abbrev pub Fitted : Bool → ℕ → ℤ → Scaled → Type 0
-Fitted up a e x = (h : ℕ) (s : Bool) → 2 ^ 31 ≤ h → a ≡ whole-part up h s → x ≡ pack up 32 h e s
+-- w is the whole part of h and a rest, which s says is left, and says so too
+abbrev pub IsWhole : Bool → ℕ → Bool → Whole → Type 0
+IsWhole up h s w = (w .part ≡ whole-part up h s) × (w .rest ≡ s)
+
+-- r is the rounding of h × 2^e and a rest below 2^e, whatever the h and the rest of which w is the whole part, and says whether it lost anything
+abbrev pub Fitted : Bool → Whole → ℤ → Rounded → Type 0
+Fitted up w e r = (h : ℕ) (s : Bool) → 2 ^ 31 ≤ h → IsWhole up h s w → (narrow (r .number) ≡ pack up 32 h e s) × (r .lost ≡ inexact 32 h s)
+
+-- r is the rounding of q, and says whether it lost anything
+abbrev pub Rounds : Bool → Frac → Rounded → Type 0
+Rounds up q r = (narrow (r .number) ≡ round up 32 q) × (r .lost ≡ lost up 32 q)
 
 -- high + low / 2^32 is 2^(31 + bits) / k, rounded up to 32 bits below the point; k has that many bits
 pub record IsReciprocal (r : Reciprocal) : Type 0 where
@@ -61,7 +73,7 @@ powers-of up w = record { r = side-of up (w .r); sum = side-of up (w .sum) }
 
 -- r(k+1) of a side, from its r(k) and t
 abbrev pub next-r : Bool → ℕ → Scaled → Scaled → Scaled
-next-r up k r t = div value (round up 32) (mul value (round up 32) r t) (suc k)
+next-r up k r t = rounded up 32 .quotient (rounded up 32 .product r t) (suc k)
 
 -- E is accepted, and on both sides t is E's t and w is E's r(k) with the sum of r(0) to r(k)
 pub record Powers-at (E : Encounter) (k : ℕ) (t : Pair) (w : PowerPairs) : Type 0 where

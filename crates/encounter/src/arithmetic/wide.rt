@@ -1,19 +1,20 @@
-// The arithmetic on scaled numbers in two machine words: each operation answers D (up is false) or U (up is true) of the exact value.
+// The arithmetic on scaled numbers in two machine words: each operation answers D (up is false) or U (up is true) of the exact value, and whether it lost anything.
 ghost use mathlib.Core.Path.{_≡_};
-ghost use Prim.Native.Nat.{_*_, _/_, _%_, _^_, _≤_, _<_, min};
+ghost use mathlib.Core.Bool.{false};
+ghost use Prim.Native.Nat.{_/_, _%_, _^_, _≤_, _<_, min};
 ghost use lib.Dec.{ltb};
 ghost use lib.IntN.{pos, _+ℤ_, _-ℤ_};
 ghost use Rattle.exact.specs.Fraction.{_⊕_, _⊗_, _÷_, _⊘_, at-most};
 ghost use Rattle.exact.specs.Integer.{posPart, negPart};
 ghost use Rattle.exact.specs.Scaled.{value, with-exponent, half, Normal};
 ghost use Rattle.exact.specs.Private.Ranges.{InRange};
-ghost use Rattle.exact.specs.Private.Round.{round};
-ghost use Rattle.encounter.specs.Private.Loops.{narrow, whole-part, IsReciprocal};
+ghost use Rattle.encounter.specs.Private.Loops.{narrow, IsWhole, Rounds, IsReciprocal};
 use crate::arithmetic::exponent::gap;
 use crate::arithmetic::exponent::lowered;
 use crate::arithmetic::exponent::minus;
 use crate::arithmetic::exponent::plus;
 use crate::arithmetic::exponent::raised;
+use crate::arithmetic::rounding::Whole;
 use crate::arithmetic::rounding::bits;
 use crate::arithmetic::rounding::divided;
 use crate::arithmetic::rounding::fit;
@@ -24,6 +25,12 @@ use exact::Scaled;
 pub struct Wide {
     pub m: u64,
     pub e: i64,
+}
+
+// A result, and whether its rounding lost anything (request #105).
+pub struct Rounded {
+    pub number: Wide,
+    pub lost: bool,
 }
 
 pub fn widen(a: Scaled) -> Wide
@@ -43,10 +50,20 @@ pub fn narrowed(a: Wide) -> Scaled
     Scaled { m, e }
 }
 
+// A number that is exact as it stands.
+fn unchanged(number: Wide) -> Rounded
+    ensures { λ r. ⌜ (r .number ≡ number) × (r .lost ≡ false) ⌝ }
+{
+    Rounded {
+        number,
+        lost: false,
+    }
+}
+
 // a × b.
-pub fn product(up: bool, a: Wide, b: Wide) -> Wide
+pub fn product(up: bool, a: Wide, b: Wide) -> Rounded
     requires { ⌜ (InRange 32 (2 ^ 28) (narrow a)) × (InRange 32 (2 ^ 28) (narrow b)) ⌝ }
-    ensures { λ r. ⌜ narrow r ≡ round up 32 (value (narrow a) ⊗ value (narrow b)) ⌝ }
+    ensures { λ r. ⌜ Rounds up (value (narrow a) ⊗ value (narrow b)) r ⌝ }
 {
     let m = a.m;
     let n = b.m;
@@ -54,7 +71,8 @@ pub fn product(up: bool, a: Wide, b: Wide) -> Wide
     let y = b.e;
     let h = m * n;
     if h == 0 {
-        return Wide { m: 0, e: 0 };
+        let number = Wide { m: 0, e: 0 };
+        return unchanged(number);
     }
     let e = raised(plus(x, y), 31);
     fit(up, divided(up, h, 2147483648), e)
@@ -71,38 +89,44 @@ fn shift(g: u64) -> u64
 }
 
 // y / 2^g, or where up is true the whole number at or above it.
-fn shifted(up: bool, y: u64, g: u64) -> u64
+fn shifted(up: bool, y: u64, g: u64) -> Whole
     requires { ⌜ (0 < y) × (y < 2 ^ 32) ⌝ }
-    ensures { λ r. ⌜ r ≡ whole-part up (y / 2 ^ g) (ltb 0 (y % 2 ^ g)) ⌝ }
+    ensures { λ r. ⌜ IsWhole up (y / 2 ^ g) (ltb 0 (y % 2 ^ g)) r ⌝ }
 {
     let s = shift(g);
+    let below = y >> s;
+    let rest = followed(below, s) < y;
     if up {
-        return ((y - 1) >> s) + 1;
+        let part = ((y - 1) >> s) + 1;
+        return Whole { part, rest };
     }
-    y >> s
+    Whole { part: below, rest }
 }
 
 // a + b, where neither is zero and a's exponent is b's and g more.
-fn aligned(up: bool, a: Wide, b: Wide, g: u64) -> Wide
+fn aligned(up: bool, a: Wide, b: Wide, g: u64) -> Rounded
     requires { ⌜ (InRange 32 (2 ^ 28) (narrow a)) × (Normal 32 (narrow a)) × (Normal 32 (narrow b)) × (a .e ≡ b .e +ℤ pos g) ⌝ }
-    ensures { λ r. ⌜ narrow r ≡ round up 32 (value (narrow a) ⊕ value (narrow b)) ⌝ }
+    ensures { λ r. ⌜ Rounds up (value (narrow a) ⊕ value (narrow b)) r ⌝ }
 {
     let m = a.m;
     let n = b.m;
     let e = a.e;
-    fit(up, m + shifted(up, n, g), e)
+    let below = shifted(up, n, g);
+    let part = m + below.part;
+    let rest = below.rest;
+    fit(up, Whole { part, rest }, e)
 }
 
 // a + b.
-pub fn sum(up: bool, a: Wide, b: Wide) -> Wide
+pub fn sum(up: bool, a: Wide, b: Wide) -> Rounded
     requires { ⌜ (InRange 32 (2 ^ 28) (narrow a)) × (InRange 32 (2 ^ 28) (narrow b)) ⌝ }
-    ensures { λ r. ⌜ narrow r ≡ round up 32 (value (narrow a) ⊕ value (narrow b)) ⌝ }
+    ensures { λ r. ⌜ Rounds up (value (narrow a) ⊕ value (narrow b)) r ⌝ }
 {
     if b.m == 0 {
-        return a;
+        return unchanged(a);
     }
     if a.m == 0 {
-        return b;
+        return unchanged(b);
     }
     let x = a.e;
     let y = b.e;
@@ -115,14 +139,14 @@ pub fn sum(up: bool, a: Wide, b: Wide) -> Wide
 }
 
 // a / k: followed by as many zeros as k has bits, a's mantissa has a quotient of 32 or 33 bits.
-pub fn over(up: bool, a: Wide, k: u64) -> Wide
+pub fn over(up: bool, a: Wide, k: u64) -> Rounded
     requires { ⌜ (InRange 32 (2 ^ 28) (narrow a)) × (0 < k) × (k < 2 ^ 32) ⌝ }
-    ensures { λ r. ⌜ narrow r ≡ round up 32 (value (narrow a) ÷ k) ⌝ }
+    ensures { λ r. ⌜ Rounds up (value (narrow a) ÷ k) r ⌝ }
 {
     let m = a.m;
     let x = a.e;
     if m == 0 {
-        return a;
+        return unchanged(a);
     }
     let t = bits(k);
     let n = followed(m, t);
@@ -155,9 +179,9 @@ pub fn reciprocal_of(k: u64) -> Reciprocal
 }
 
 // a / k, by the reciprocal of k.
-pub fn over_by(up: bool, a: Wide, by: Reciprocal) -> Wide
+pub fn over_by(up: bool, a: Wide, by: Reciprocal) -> Rounded
     requires { ⌜ (InRange 32 (2 ^ 28) (narrow a)) × IsReciprocal by ⌝ }
-    ensures { λ r. ⌜ narrow r ≡ round up 32 (value (narrow a) ÷ by .k) ⌝ }
+    ensures { λ r. ⌜ Rounds up (value (narrow a) ÷ by .k) r ⌝ }
 {
     let m = a.m;
     let x = a.e;
@@ -165,7 +189,7 @@ pub fn over_by(up: bool, a: Wide, by: Reciprocal) -> Wide
     let high = by.high;
     let low = by.low;
     if m == 0 {
-        return a;
+        return unchanged(a);
     }
     let h = m * high + m * low / 4294967296;
     let e = lowered(x, bits);
@@ -195,16 +219,16 @@ pub fn halved(a: Wide) -> Wide
 }
 
 // a / b, where b is not zero: by b's mantissa, which has 32 bits.
-pub fn quotient(up: bool, a: Wide, b: Wide) -> Wide
+pub fn quotient(up: bool, a: Wide, b: Wide) -> Rounded
     requires { ⌜ (InRange 32 (2 ^ 28) (narrow a)) × (InRange 32 (2 ^ 28) (narrow b)) × (Normal 32 (narrow b)) ⌝ }
-    ensures { λ r. ⌜ narrow r ≡ round up 32 (value (narrow a) ⊘ value (narrow b)) ⌝ }
+    ensures { λ r. ⌜ Rounds up (value (narrow a) ⊘ value (narrow b)) r ⌝ }
 {
     let m = a.m;
     let k = b.m;
     let x = a.e;
     let y = b.e;
     if m == 0 {
-        return a;
+        return unchanged(a);
     }
     let n = followed(m, 32);
     let e = lowered(minus(x, y), 32);

@@ -18,6 +18,7 @@ pub fn refuse(r: u32) -> Answer
         class: Class::Clear,
         object: 0,
         time: 0,
+        exact: 0,
     }
 }
 
@@ -43,5 +44,6 @@ pub fn count_to(n: u32) -> Answer
         class: Class::Clear,
         object: 0,
         time: 0,
+        exact: 0,
     }
 }

@@ -23,11 +23,9 @@ pub fn lower_end(s: Session) -> Scaled
     let above = s.upper;
     let terms = below.terms;
     let r256 = s.r256;
-    quotient(
-        false,
-        terms.sum,
-        sum(true, above.exponential, doubled(r256)),
-    )
+    let under = sum(true, above.exponential, doubled(r256));
+    let end = quotient(false, terms.sum, under.number);
+    end.number
 }
 
 pub fn upper_end(s: Session) -> Scaled
@@ -38,7 +36,9 @@ pub fn upper_end(s: Session) -> Scaled
     let above = s.upper;
     let terms = above.terms;
     let d = s.d;
-    quotient(true, sum(true, terms.sum, doubled(d)), below.exponential)
+    let over = sum(true, terms.sum, doubled(d));
+    let end = quotient(true, over.number, below.exponential);
+    end.number
 }
 
 // U(1/10,000): a scaled number × 10,000 is at least 1 just where it is at least this.

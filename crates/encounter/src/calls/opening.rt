@@ -1,48 +1,81 @@
 // The session of an accepted encounter at order 1, without object and time.
 ghost use mathlib.Core.Path.{_≡_};
-ghost use mathlib.Core.Bool.{true};
+ghost use mathlib.Core.Bool.{true, cond};
 ghost use Rattle.exact.specs.Private.Ranges.{Bounds};
 ghost use Rattle.exact.specs.Refusals.{Accepted};
-ghost use Rattle.exact.specs.Steps.{side-letters, exponential-sum};
+ghost use Rattle.exact.specs.Steps.{exponential-sum};
+ghost use Rattle.exact.specs.Losses.{traced-letters, traced-terms, term-lost, operand-lost};
 ghost use Rattle.encounter.specs.Session.{side, state, no-object};
-ghost use Rattle.encounter.specs.Private.Held.{held-letters};
-use crate::state::Letters;
+ghost use Rattle.encounter.specs.Private.Held.{way-letters};
 use crate::state::Session;
 use crate::state::Side;
 use crate::steps::letters::bound;
 use crate::steps::letters::letters;
 use crate::steps::letters::start;
+use crate::steps::losses::Losses;
+use crate::steps::losses::TracedLetters;
+use crate::steps::losses::either_side;
+use crate::steps::losses::first_terms;
+use crate::steps::losses::letter_numbers;
+use crate::steps::losses::losses_at;
+use crate::steps::losses::term_numbers;
 use crate::steps::powers::exponential_sums;
 use crate::steps::terms::first_tail;
-use crate::steps::terms::first_terms;
 use exact::Encounter;
 use exact::Scaled;
 
-// A side at order 1, from its letters and its exponential sum.
-fn open_side(up: bool, E: Encounter, l: Letters, exponential: Scaled) -> Side
-    requires { ⌜ (Bounds E) × (l ≡ held-letters (side-letters up E)) × (exponential ≡ exponential-sum up E) ⌝ }
-    ensures { λ r. ⌜ r ≡ side up E 1 ⌝ }
+// A side at order 1, and its losses.
+struct OpenSide {
+    side: Side,
+    losses: Losses,
+}
+
+// From its letters and its exponential sum.
+fn open_side(up: bool, E: Encounter, l: TracedLetters, exponential: Scaled) -> OpenSide
+    requires { ⌜ (Bounds E) × (way-letters l ≡ traced-letters up E) × (exponential ≡ exponential-sum up E) ⌝ }
+    ensures { λ r. ⌜ (r .side ≡ side up E 1) × (r .losses .term ≡ term-lost up E 0) × (r .losses .operand ≡ operand-lost (traced-letters up E) (traced-terms up E 0)) ⌝ }
 {
-    let terms = first_terms(up, l, start(up, E));
-    Side {
-        letters: l,
-        exponential,
-        terms,
+    let s = first_terms(up, l, start(up, E));
+    let letters = letter_numbers(l);
+    let terms = term_numbers(s);
+    let losses = losses_at(l, s);
+    OpenSide {
+        side: Side {
+            letters,
+            exponential,
+            terms,
+        },
+        losses,
     }
 }
 
+// 0 where something was lost, else 1.
+pub fn unless(lost: bool) -> u32
+    ensures { λ r. ⌜ r ≡ cond lost 0 1 ⌝ }
+{
+    if lost {
+        return 0;
+    }
+    1
+}
+
 // From the upper letters, which test 7 needed.
-pub fn opened(E: Encounter, above: Letters) -> Session
-    requires { ⌜ (Accepted E) × (above ≡ held-letters (side-letters true E)) ⌝ }
+pub fn opened(E: Encounter, above: TracedLetters) -> Session
+    requires { ⌜ (Accepted E) × (way-letters above ≡ traced-letters true E) ⌝ }
     ensures { λ r. ⌜ r ≡ state (no-object E) 1 ⌝ }
 {
     let below = letters(false, E);
-    let sums = exponential_sums(below.t, above.t);
-    let lower = open_side(false, E, below, sums.lower);
-    let upper = open_side(true, E, above, sums.upper);
-    let M = bound(above);
+    let sums = exponential_sums(below.t.number, above.t.number);
+    let one = open_side(false, E, below, sums.lower);
+    let other = open_side(true, E, above, sums.upper);
+    let lower = one.side;
+    let upper = other.side;
+    let lost = either_side(one.losses, other.losses);
+    let M = bound(upper.letters);
     let d = first_tail(M, upper.terms.c);
     let r256 = sums.r256;
+    let exact = unless(lost.term);
+    let lossless = unless(lost.operand);
     Session {
         encounter: E,
         object: 0,
@@ -53,5 +86,7 @@ pub fn opened(E: Encounter, above: Letters) -> Session
         r256,
         M,
         d,
+        exact,
+        lossless,
     }
 }

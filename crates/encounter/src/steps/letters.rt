@@ -1,23 +1,26 @@
-// One side's letters, and the rounded c(0).
+// One side's letters, and the rounded c(0), each with whether something was lost on its way; and M.
 ghost use mathlib.Core.Path.{_≡_};
 ghost use mathlib.Core.Bool.{true};
 ghost use Prim.Native.Nat.{_-_, _*_, _≤_, _<_};
 ghost use lib.IntN.{natAbs};
 ghost use Rattle.exact.specs.Fraction.{_over_};
 ghost use Rattle.exact.specs.Numbers.{largest-length};
-ghost use Rattle.exact.specs.Scaled.{value};
+ghost use Rattle.exact.specs.Arithmetic.{rounded, traced};
+ghost use Rattle.exact.specs.Losses.{traced-letters};
 ghost use Rattle.exact.specs.Private.Ranges.{InRange, Bounds, Letters-in};
-ghost use Rattle.exact.specs.Private.Round.{round};
 ghost use Rattle.exact.specs.Series.{u, b, zx, zy, g};
-ghost use Rattle.exact.specs.Steps.{add, bound as boundOf, side-letters, side-start};
-ghost use Rattle.encounter.specs.Private.Held.{held-letters, step-letters};
+ghost use Rattle.exact.specs.Steps.{bound as boundOf, start as startOf};
+ghost use Rattle.encounter.specs.Private.Held.{step-letters, way-letters};
+use crate::arithmetic::scaled;
 use crate::arithmetic::scaled::halved;
-use crate::arithmetic::scaled::product;
 use crate::arithmetic::scaled::ratio;
-use crate::arithmetic::scaled::sum;
+use crate::arithmetic::traced::product;
+use crate::arithmetic::traced::sum;
 use crate::state::Letters;
+use crate::steps::losses::TracedLetters;
 use exact::Encounter;
 use exact::Scaled;
+use exact::Traced;
 
 // x × y of lengths in centimetres.
 fn times(x: u32, y: u32) -> u64
@@ -39,17 +42,17 @@ fn magnitude(z: i32) -> u32
 }
 
 // x² / (2y²).
-fn squares(up: bool, x: u32, y: u32) -> Scaled
+fn squares(up: bool, x: u32, y: u32) -> Traced
     requires { ⌜ (x ≤ largest-length) × (0 < y) × (y ≤ largest-length) ⌝ }
-    ensures { λ r. ⌜ r ≡ round up 32 ((x * x) over (2 * (y * y))) ⌝ }
+    ensures { λ r. ⌜ r ≡ traced up 32 .fraction ((x * x) over (2 * (y * y))) ⌝ }
 {
     ratio(up, times(x, x), 2 * times(y, y))
 }
 
 // g.
-fn excess(up: bool, sx: u32, sy: u32) -> Scaled
+fn excess(up: bool, sx: u32, sy: u32) -> Traced
     requires { ⌜ (sx ≤ largest-length) × (0 < sx) × (sy ≤ sx) ⌝ }
-    ensures { λ r. ⌜ r ≡ round up 32 ((sx * sx - sy * sy) over (sx * sx)) ⌝ }
+    ensures { λ r. ⌜ r ≡ traced up 32 .fraction ((sx * sx - sy * sy) over (sx * sx)) ⌝ }
 {
     let xx = times(sx, sx);
     let yy = times(sy, sy);
@@ -57,33 +60,33 @@ fn excess(up: bool, sx: u32, sy: u32) -> Scaled
 }
 
 // c(0).
-pub fn start(up: bool, E: Encounter) -> Scaled
+pub fn start(up: bool, E: Encounter) -> Traced
     requires { ⌜ Bounds E ⌝ }
-    ensures { λ r. ⌜ r ≡ side-start up E ⌝ }
+    ensures { λ r. ⌜ r ≡ startOf (traced up 32) E ⌝ }
 {
     ratio(up, times(E.R, E.R), 2 * times(E.sx, E.sy))
 }
 
 // zx + zy + u.
-fn three(up: bool, zx: Scaled, zy: Scaled, u: Scaled) -> Scaled
-    requires { ⌜ (InRange 32 177 zx) × (InRange 32 177 zy) × (InRange 32 177 u) ⌝ }
-    ensures { λ r. ⌜ r ≡ add value (round up 32) (add value (round up 32) zx zy) u ⌝ }
+fn three(up: bool, zx: Traced, zy: Traced, u: Traced) -> Traced
+    requires { ⌜ (InRange 32 177 (zx .number)) × (InRange 32 177 (zy .number)) × (InRange 32 177 (u .number)) ⌝ }
+    ensures { λ r. ⌜ r ≡ traced up 32 .sum (traced up 32 .sum zx zy) u ⌝ }
 {
     sum(up, sum(up, zx, zy), u)
 }
 
 // What the letters are formed of.
 struct Parts {
-    u: Scaled,
-    b: Scaled,
-    zx: Scaled,
-    zy: Scaled,
-    g: Scaled,
+    u: Traced,
+    b: Traced,
+    zx: Traced,
+    zy: Traced,
+    g: Traced,
 }
 
 fn fractions(up: bool, E: Encounter) -> Parts
     requires { ⌜ Bounds E ⌝ }
-    ensures { λ r. ⌜ (r .u ≡ round up 32 (u E)) × (r .b ≡ round up 32 (b E)) × (r .zx ≡ round up 32 (zx E)) × (r .zy ≡ round up 32 (zy E)) × (r .g ≡ round up 32 (g E)) ⌝ }
+    ensures { λ r. ⌜ (r .u ≡ traced up 32 .fraction (u E)) × (r .b ≡ traced up 32 .fraction (b E)) × (r .zx ≡ traced up 32 .fraction (zx E)) × (r .zy ≡ traced up 32 .fraction (zy E)) × (r .g ≡ traced up 32 .fraction (g E)) ⌝ }
 {
     let R = E.R;
     let sx = E.sx;
@@ -96,9 +99,9 @@ fn fractions(up: bool, E: Encounter) -> Parts
     Parts { u, b, zx, zy, g }
 }
 
-pub fn letters(up: bool, E: Encounter) -> Letters
+pub fn letters(up: bool, E: Encounter) -> TracedLetters
     requires { ⌜ Bounds E ⌝ }
-    ensures { λ r. ⌜ r ≡ held-letters (side-letters up E) ⌝ }
+    ensures { λ r. ⌜ way-letters r ≡ traced-letters up E ⌝ }
 {
     let f = fractions(up, E);
     let u = f.u;
@@ -106,17 +109,20 @@ pub fn letters(up: bool, E: Encounter) -> Letters
     let X = product(up, f.zx, f.b);
     let Y = product(up, f.zy, u);
     let t = three(up, f.zx, f.zy, u);
-    Letters { u, h, X, Y, t }
+    TracedLetters { u, h, X, Y, t }
 }
 
 // M.
 pub fn bound(l: Letters) -> Scaled
     requires { ⌜ Letters-in (step-letters l) ⌝ }
-    ensures { λ r. ⌜ r ≡ boundOf value (round true 32) (step-letters l) ⌝ }
+    ensures { λ r. ⌜ r ≡ boundOf (rounded true 32) (step-letters l) ⌝ }
 {
     let u = l.u;
     let h = l.h;
     let X = l.X;
     let Y = l.Y;
-    sum(true, sum(true, sum(true, u, halved(h)), X), Y)
+    let a = scaled::sum(true, u, halved(h));
+    let b = scaled::sum(true, a.number, X);
+    let M = scaled::sum(true, b.number, Y);
+    M.number
 }

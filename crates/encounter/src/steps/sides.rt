@@ -7,8 +7,9 @@ ghost use Rattle.exact.specs.Scaled.{value, half};
 ghost use Rattle.exact.specs.Private.Ranges.{InRange, Terms-in};
 ghost use Rattle.exact.specs.Private.Round.{round};
 ghost use Rattle.encounter.specs.Private.Held.{step-letters, step-terms, held-terms};
-ghost use Rattle.encounter.specs.Private.Loops.{side-of, letters-of, terms-of, IsReciprocal};
+ghost use Rattle.encounter.specs.Private.Loops.{narrow, side-of, letters-of, terms-of, IsReciprocal};
 use crate::arithmetic::wide::Reciprocal;
+use crate::arithmetic::wide::Rounded;
 use crate::arithmetic::wide::Wide;
 use crate::arithmetic::wide::halved;
 use crate::arithmetic::wide::narrowed;
@@ -100,40 +101,49 @@ pub fn side_terms(up: bool, s: TermPairs) -> Terms
     Terms { c, p, v, y, sum }
 }
 
+// Both sides' results, without their losses.
+fn numbers(below: Rounded, above: Rounded) -> Pair
+    ensures { λ r. ⌜ (side-of false r ≡ narrow (below .number)) × (side-of true r ≡ narrow (above .number)) ⌝ }
+{
+    let lower = below.number;
+    let upper = above.number;
+    Pair { lower, upper }
+}
+
 pub fn products(a: Pair, b: Pair) -> Pair
     requires { ⌜ ((up : Bool) → (InRange 32 (2 ^ 28) (side-of up a)) × (InRange 32 (2 ^ 28) (side-of up b))) ⌝ }
     ensures { λ r. ⌜ ((up : Bool) → side-of up r ≡ round up 32 (value (side-of up a) ⊗ value (side-of up b))) ⌝ }
 {
-    let lower = product(false, a.lower, b.lower);
-    let upper = product(true, a.upper, b.upper);
-    Pair { lower, upper }
+    let below = product(false, a.lower, b.lower);
+    let above = product(true, a.upper, b.upper);
+    numbers(below, above)
 }
 
 pub fn sums(a: Pair, b: Pair) -> Pair
     requires { ⌜ ((up : Bool) → (InRange 32 (2 ^ 28) (side-of up a)) × (InRange 32 (2 ^ 28) (side-of up b))) ⌝ }
     ensures { λ r. ⌜ ((up : Bool) → side-of up r ≡ round up 32 (value (side-of up a) ⊕ value (side-of up b))) ⌝ }
 {
-    let lower = sum(false, a.lower, b.lower);
-    let upper = sum(true, a.upper, b.upper);
-    Pair { lower, upper }
+    let below = sum(false, a.lower, b.lower);
+    let above = sum(true, a.upper, b.upper);
+    numbers(below, above)
 }
 
 pub fn overs(a: Pair, k: u64) -> Pair
     requires { ⌜ ((up : Bool) → InRange 32 (2 ^ 28) (side-of up a)) × (0 < k) × (k < 2 ^ 32) ⌝ }
     ensures { λ r. ⌜ ((up : Bool) → side-of up r ≡ round up 32 (value (side-of up a) ÷ k)) ⌝ }
 {
-    let lower = over(false, a.lower, k);
-    let upper = over(true, a.upper, k);
-    Pair { lower, upper }
+    let below = over(false, a.lower, k);
+    let above = over(true, a.upper, k);
+    numbers(below, above)
 }
 
 pub fn overs_by(a: Pair, by: Reciprocal) -> Pair
     requires { ⌜ ((up : Bool) → InRange 32 (2 ^ 28) (side-of up a)) × IsReciprocal by ⌝ }
     ensures { λ r. ⌜ ((up : Bool) → side-of up r ≡ round up 32 (value (side-of up a) ÷ by .k)) ⌝ }
 {
-    let lower = over_by(false, a.lower, by);
-    let upper = over_by(true, a.upper, by);
-    Pair { lower, upper }
+    let below = over_by(false, a.lower, by);
+    let above = over_by(true, a.upper, by);
+    numbers(below, above)
 }
 
 pub fn halves(a: Pair) -> Pair

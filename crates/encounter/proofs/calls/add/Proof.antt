@@ -1,7 +1,6 @@
 use mathlib.Core.Path.{refl, _∙_}
 use native.Mathlib.Omega.{arith}
 use Rattle.encounter.proofs.calls.Invariant.{begun, order-high}
-use Rattle.encounter.proofs.steps.Progressing.{added-is}
 use Rattle.encounter.proofs.calls.Answering.{add-21, add-22, add-taken, call-reached}
 use Rattle.encounter.specs.Calls.{adds}
 use borrow.Author.Needs.{needs}
@@ -29,25 +28,16 @@ returns-2 c =
     let e = c .refused-on2 .ensures ∙ add-22 (z .args .s) (z .args .count) (c .before .before .before .if1 .left) (c .before .if2 .taken) refl in
     (e, call-reached (adds (z .args .count)) (z .pre) e)
 
-advance-requires : tie.Need-advance-requires
-advance-requires c κs = let z = c .before .before .before .before in (begun (z .args .s) (z .pre) (c .before .before .if1 .left), c .if2 .left)
-
-later-side-requires : tie.Need-later-side-requires
-later-side-requires c κs = search needs
-
-later-side-requires-2 : tie.Need-later-side-requires-2
-later-side-requires-2 c κs = search needs
+further-requires : tie.Need-further-requires
+further-requires c κs = let z = c .before .before .before .before in (begun (z .args .s) (z .pre) (c .before .before .if1 .left), c .if2 .left)
 
 count-to-requires : tie.Need-count-to-requires
 count-to-requires c κs = search needs
 
 returns-3 : tie.Need-returns-3
 returns-3 c =
-    let z = c .before .before .before .before .before .before .before .before .before in
-    let some = c .before .before .before .before .before .before .before .if1 .left in
-    let b = begun (z .args .s) (z .pre) some in
-    let n = added-is (z .args .s) b _ (c .before .before .before .before .advance .result) _ _ (omega (arith, b .low)) (c .before .before .before .before .advance .ensures) (c .before .before .before .later-side .ensures) (c .before .before .later-side2 .ensures) in
-    let e = add-taken (z .args .s) (z .args .count) some (c .before .before .before .before .before .if2 .left) (c .count-to .ensures) n in
+    let z = c .before .before .before .before .before .before in
+    let e = add-taken (z .args .s) (z .args .count) (c .before .before .before .before .if1 .left) (c .before .before .if2 .left) (c .count-to .ensures) (c .before .further .ensures) in
     (e, call-reached (adds (z .args .count)) (z .pre) e)
 
 pub add-spec : {M : Type 1} → statement M
@@ -59,8 +49,6 @@ add-spec =
     add-n
     refused-on-requires-2
     returns-2
-    advance-requires
-    later-side-requires
-    later-side-requires-2
+    further-requires
     count-to-requires
     returns-3)

@@ -1,16 +1,20 @@
 use mathlib.Core.Path.{_≡_, refl, sym, _∙_, ap}
-use mathlib.Core.Bool.{Bool, true, false, not}
+use mathlib.Core.Bool.{Bool, true, not}
 use Prim.Native.Nat.{ℕ, _≤_}
 use native.Mathlib.Omega.{arith}
 use Rattle.exact.specs.Fraction.{whole, at-most, above}
 use Rattle.exact.specs.Scaled.{value}
 use Rattle.exact.specs.declared.Encounter.{Encounter}
 use Rattle.exact.specs.Numbers.{largest-t}
-use Rattle.exact.specs.Steps.{side-letters}
+use Rattle.exact.specs.declared.Scaled.{Scaled}
+use Rattle.exact.specs.declared.Traced.{Traced}
+use Rattle.exact.specs.Losses.{traced-letters}
+use Rattle.exact.specs.Steps.{LettersOf, side-letters}
 use Rattle.exact.specs.Refusals.{refuses-7}
 use Rattle.exact.specs.Private.Ranges.{tests-3-to-6}
-use Rattle.encounter.specs.declared.state.Letters.{Letters}
-use Rattle.encounter.specs.Private.Held.{held-letters}
+use Rattle.exact.proofs.Losses.{letters-number}
+use Rattle.encounter.specs.declared.steps.losses.TracedLetters.{TracedLetters}
+use Rattle.encounter.specs.Private.Held.{way-letters}
 use Rattle.encounter.proofs.steps.Opening.{letters-fine}
 use Rattle.encounter.proofs.calls.Answering.{begin-early, begin-7, begin-taken, call-reached, passed-bounds, accepted}
 use Rattle.encounter.specs.Calls.{begins}
@@ -18,11 +22,15 @@ use borrow.Author.Needs.{needs}
 use Rattle.encounter.proofs.calls.begin.Statement.{statement}
 use Rattle.encounter.proofs.calls.begin.Tie as tie
 
+-- the upper t, without what was lost on its way
+upper-t : (E : Encounter) {l : TracedLetters} → way-letters l ≡ traced-letters true E → l .t .number ≡ side-letters true E .t
+upper-t E e = ap (λ (l : LettersOf Traced). l .t .number) e ∙ ap (λ (l : LettersOf Scaled). l .t) (letters-number true E)
+
 -- test 7, as the code makes it
-test-7 : (E : Encounter) {l : Letters} {r x : Bool} → l ≡ held-letters (side-letters true E) → r ≡ at-most (value (l .t)) (whole largest-t) → r ≡ x → refuses-7 E ≡ not x
+test-7 : (E : Encounter) {l : TracedLetters} {r x : Bool} → way-letters l ≡ traced-letters true E → r ≡ at-most (value (l .t .number)) (whole largest-t) → r ≡ x → refuses-7 E ≡ not x
 unfolding refuses-7 above
 test-7 E {l} e g k =
-    let same : at-most (value (l .t)) (whole largest-t) ≡ at-most (value (side-letters true E .t)) (whole largest-t) = rw e in
+    let same : at-most (value (l .t .number)) (whole largest-t) ≡ at-most (value (side-letters true E .t)) (whole largest-t) = rw (upper-t E e) in
     ap not (sym same ∙ sym g ∙ k)
 
 passes : (E : Encounter) {r : ℕ} → r ≡ tests-3-to-6 E 0 → r ≤ 0 → tests-3-to-6 E 0 ≡ 0

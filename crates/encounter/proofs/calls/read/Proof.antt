@@ -1,6 +1,7 @@
 use mathlib.Core.Path.{_≡_, sym, _∙_, ap}
 use mathlib.Core.Bool.{Bool, not}
 use Rattle.encounter.proofs.calls.Invariant.{begun, demands}
+use Rattle.encounter.proofs.calls.Adding.{exact-is}
 use Rattle.encounter.proofs.calls.Reading.{not-not, lower-end-fine, upper-end-fine}
 use Rattle.encounter.proofs.calls.Answering.{read-21, read-23, read-taken, bracket-is}
 use borrow.Author.Needs.{needs}
@@ -38,8 +39,9 @@ refuse-requires-2 c κs = search needs
 returns-2 : tie.Need-returns-2
 returns-2 c =
     let z = c .before .before .before .before .before .before .before in
-    let some = c .before .before .before .before .before .if1 .left in (
-      read-taken (z .args .s) some (flipped (c .before .before .before .before .may-read .ensures) (c .before .before .before .if2 .taken)) (bracket-is (z .args .s) (c .before .before .lower-end .ensures) (c .before .upper-end .ensures) (c .classify .ensures)),
+    let some = c .before .before .before .before .before .if1 .left in
+    let e = exact-is (z .args .s) (begun (z .args .s) (z .pre) some) in (
+      read-taken (z .args .s) some (flipped (c .before .before .before .before .may-read .ensures) (c .before .before .before .if2 .taken)) (bracket-is (z .args .s) e (c .before .before .lower-end .ensures) (c .before .upper-end .ensures) (c .classify .ensures)),
       demands,
     )
 

@@ -23,13 +23,13 @@ whole-part-requires c κs =
     let z = c .before .before .before in
     let a = z .args in
     let x = narrow (a .x) in
-    let e = times-is (a .up) x (a .k) (c .before .widen .ensures ∙ c .before .before .power-of-ten .ensures) (c .product .ensures) in
+    let e = times-is (a .up) x (a .k) (c .before .widen .ensures ∙ c .before .before .power-of-ten .ensures) (c .product .ensures .0) in
     (times-range (a .up) x (a .k) e (z .pre .2) (z .pre .0), times-flat (a .up) x (a .k) (z .pre .1) e (z .pre .3))
 
 returns : tie.Need-returns
 returns c =
     let a = c .before .before .before .before .args in
-    rw (← times-is (a .up) (narrow (a .x)) (a .k) (c .before .before .widen .ensures ∙ c .before .before .before .power-of-ten .ensures) (c .before .product .ensures)) (c .whole-part .ensures)
+    rw (← times-is (a .up) (narrow (a .x)) (a .k) (c .before .before .widen .ensures ∙ c .before .before .before .power-of-ten .ensures) (c .before .product .ensures .0)) (c .whole-part .ensures)
 
 pub whole-at-spec : {M : Type 1} → statement M
 whole-at-spec = tie.close (tie.spec power-of-ten-requires widen-requires product-requires whole-part-requires returns)

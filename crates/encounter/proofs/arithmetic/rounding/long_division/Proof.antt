@@ -2,7 +2,7 @@ use mathlib.Core.Path.{_≡_, sym, _∙_, ap}
 use Prim.Native.Nat.{ℕ, _+_, _*_, _/_, _%_, _^_, _<_}
 use native.Mathlib.Nat.{div-lt-iff-lt-mul, mul-add-div-right, mul-add-mod-self-right, div-add-mod', mod-lt}
 use native.Mathlib.Omega.{arith}
-use Rattle.encounter.proofs.arithmetic.WholeParts.{whole-none, whole-else}
+use Rattle.encounter.proofs.arithmetic.WholeParts.{whole-none, whole-else, rest-none, rest-some}
 use borrow.Author.Needs.{needs}
 use Rattle.encounter.proofs.arithmetic.rounding.long_division.Statement.{statement}
 use Rattle.encounter.proofs.arithmetic.rounding.long_division.Tie as tie
@@ -55,7 +55,8 @@ returns : tie.Need-returns
 returns c =
     let z = c .before .before in
     let f = c .before .followed .ensures in
-    quotient _ _ _ (z .pre .0) (z .pre .2) f ∙ sym (whole-none (z .args .up) _ _ (sym (rest _ _ _ (z .pre .0) (z .pre .2) f) ∙ c .if1 .taken))
+    let none = sym (rest _ _ _ (z .pre .0) (z .pre .2) f) ∙ c .if1 .taken in
+    (quotient _ _ _ (z .pre .0) (z .pre .2) f ∙ sym (whole-none (z .args .up) _ _ none), rest-none _ none)
 
 upward-requires : tie.Need-upward-requires
 upward-requires c κs = let z = c .before .before in omega (arith, fits _ _ _ (z .pre .0) (z .pre .2) (c .before .followed .ensures))
@@ -63,8 +64,10 @@ upward-requires c κs = let z = c .before .before in omega (arith, fits _ _ _ (z
 returns-2 : tie.Need-returns-2
 returns-2 c =
     let z = c .before .before .before in
-    let f = c .before .before .followed .ensures in
-    rw (c .upward .ensures, quotient _ _ _ (z .pre .0) (z .pre .2) f) (sym (whole-else (z .args .up) _ _ (λ e. c .before .if1 .left (rest _ _ _ (z .pre .0) (z .pre .2) f ∙ e))))
+    let f = c .before .before .followed .ensures in (
+      c .upward .ensures ∙ rw (quotient _ _ _ (z .pre .0) (z .pre .2) f) (sym (whole-else (z .args .up) _ _ (λ e. c .before .if1 .left (rest _ _ _ (z .pre .0) (z .pre .2) f ∙ e)))),
+      rest-some _ (λ e. c .before .if1 .left (rest _ _ _ (z .pre .0) (z .pre .2) f ∙ e)),
+    )
 
 pub long-division-spec : {M : Type 1} → statement M
 long-division-spec =

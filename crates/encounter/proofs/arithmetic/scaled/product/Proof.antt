@@ -1,5 +1,6 @@
 use lib.Dec.{lit≤}
 use Rattle.exact.proofs.Ranges.{widen}
+use Rattle.encounter.proofs.arithmetic.Results.{traced-is}
 use Rattle.encounter.proofs.arithmetic.Fitting.{product-of}
 use borrow.Author.Needs.{needs}
 use Rattle.encounter.proofs.arithmetic.scaled.product.Statement.{statement}
@@ -14,14 +15,16 @@ widen-requires-2 c κs = search needs
 product-requires : tie.Need-product-requires
 product-requires c κs = let z = c .before .before in rw (c .before .widen .ensures, c .widen2 .ensures) (z .pre)
 
-narrowed-requires : tie.Need-narrowed-requires
-narrowed-requires c κs =
+traced-requires : tie.Need-traced-requires
+traced-requires c κs =
     let z = c .before .before .before in
-    widen (lit≤ tt) (product-of (z .args .up) (rw (c .before .before .widen .ensures, c .before .widen2 .ensures) at (c .product .ensures)) (z .pre .0) (z .pre .1))
+    widen (lit≤ tt) (product-of (z .args .up) (rw (c .before .before .widen .ensures, c .before .widen2 .ensures) at (c .product .ensures .0)) (z .pre .0) (z .pre .1))
 
 returns : tie.Need-returns
-returns c = rw (c .narrowed .ensures, c .before .product .ensures, c .before .before .before .widen .ensures, c .before .before .widen2 .ensures)
+returns c =
+    let z = c .before .before .before .before in
+    traced-is (z .args .up) _ (rw (c .before .before .before .widen .ensures, c .before .before .widen2 .ensures) at (c .before .product .ensures)) (c .traced .ensures)
 
 pub product-spec : {M : Type 1} → statement M
 product-spec =
-    tie.close (tie.spec widen-requires widen-requires-2 product-requires narrowed-requires returns)
+    tie.close (tie.spec widen-requires widen-requires-2 product-requires traced-requires returns)

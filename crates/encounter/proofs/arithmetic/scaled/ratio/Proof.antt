@@ -1,18 +1,19 @@
-use mathlib.Core.Path.{_≡_, sym, _∙_}
 use Prim.Native.Nat.{_+_}
 use native.Mathlib.Omega.{arith}
-use lib.Dec.{lit≤}
+use lib.Dec.{lit<, lit≤}
 use lib.IntN.{pos}
 use lib.Ieee.Digits.{size-le}
 use mir.Syntax.{w64}
 use Rattle.exact.specs.Fraction.{_over_}
-use Rattle.exact.specs.Private.Round.{round}
+use Rattle.exact.specs.Arithmetic.{rounding}
 use Rattle.exact.proofs.Integers.{pos-diff}
 use Rattle.exact.proofs.Signed.{back-in}
+use Rattle.exact.proofs.Rounding.{lost-nought}
 use Rattle.exact.proofs.Operations.{ratio-none}
 use Rattle.exact.proofs.Ranges.{widen}
-use Rattle.encounter.specs.Private.Loops.{narrow}
+use Rattle.encounter.specs.Private.Loops.{Rounds}
 use Rattle.encounter.proofs.arithmetic.Fitting.{ratio-of}
+use Rattle.encounter.proofs.arithmetic.Results.{fitted-rounds, traced-is}
 use Rattle.encounter.proofs.arithmetic.LongDivision.{filled, full, divides}
 use Rattle.encounter.proofs.arithmetic.WholeParts.{whole-le}
 use borrow.Author.Needs.{needs}
@@ -20,7 +21,11 @@ use Rattle.encounter.proofs.arithmetic.scaled.ratio.Statement.{statemen
 use Rattle.encounter.proofs.arithmetic.scaled.ratio.Tie as tie
 
 returns : tie.Need-returns
-returns c = let z = c .before in sym (ratio-none (z .args .up) 32 (z .args .n) (z .args .d) (c .if1 .taken))
+unfolding rounding
+returns c =
+    let z = c .before in
+    let e = ratio-none (z .args .up) 32 (z .args .n) (z .args .d) (c .if1 .taken) in
+    rw (e, lost-nought (z .args .up) 32 _ (lit< tt) e)
 
 bits-requires : tie.Need-bits-requires
 bits-requires c κs = search needs
@@ -57,23 +62,23 @@ fit-requires c κs =
     let l = c .before .lowered in
     let r = c .before .before .room .ensures in
     let f = full (z .args .n) (z .args .d) _ 0 _ (z .pre .2) (z .pre .1) (c .before .before .before .before .bits .ensures) (c .before .before .before .followed .ensures) in (
-      omega (arith, whole-le _ _ _ 4294967296 _ (omega (arith, f)) (omega (arith, r)) (c .long-division .ensures)),
+      omega (arith, whole-le _ _ _ 4294967296 _ (omega (arith, f)) (omega (arith, r)) (c .long-division .ensures .0)),
       rw (back-in w64 (l .result) (l .ok), l .ensures) (omega (arith, pos-diff (pos 32) (pos (c .before .before .before .before .bits .result + c .before .before .room .result)))),
     )
 
-rounded : (c : tie.After-fit) → let z = c .before .before .before .before .before .before .before in narrow (c .fit .result) ≡ round (z .args .up) 32 (z .args .n over z .args .d)
-rounded c =
+rounds : (c : tie.After-fit) → let z = c .before .before .before .before .before .before .before in Rounds (z .args .up) (z .args .n over z .args .d) (c .fit .result)
+rounds c =
     let z = c .before .before .before .before .before .before .before in
     let l = c .before .before .lowered in
     let r = c .before .before .before .room .ensures in
     let q = divides (z .args .n) (z .args .d) _ _ _ (z .pre .2) (z .pre .1) (c .before .before .before .before .before .bits .ensures) (c .before .before .before .before .followed .ensures) (z .args .up) (r .1) in
-    (rw (back-in w64 (l .result) (l .ok), l .ensures) at (c .fit .ensures)) _ _ (q .0) (c .before .long-division .ensures) ∙ q .1 .is
+    fitted-rounds (rw (back-in w64 (l .result) (l .ok), l .ensures) at (c .fit .ensures)) (q .0) (c .before .long-division .ensures) (q .1)
 
-narrowed-requires : tie.Need-narrowed-requires
-narrowed-requires c κs = let z = c .before .before .before .before .before .before .before in widen (lit≤ tt) (ratio-of (z .args .up) (z .args .n) (z .args .d) (rounded c) (z .pre .0) (z .pre .1) (z .pre .2))
+traced-requires : tie.Need-traced-requires
+traced-requires c κs = let z = c .before .before .before .before .before .before .before in widen (lit≤ tt) (ratio-of (z .args .up) (z .args .n) (z .args .d) (rounds c .0) (z .pre .0) (z .pre .1) (z .pre .2))
 
 returns-2 : tie.Need-returns-2
-returns-2 c = c .narrowed .ensures ∙ rounded (c .before)
+returns-2 c = traced-is _ _ (rounds (c .before)) (c .traced .ensures)
 
 pub ratio-spec : {M : Type 1} → statement M
 ratio-spec =
@@ -88,5 +93,5 @@ ratio-spec =
     lowered-requires
     long-division-requires
     fit-requires
-    narrowed-requires
+    traced-requires
     returns-2)

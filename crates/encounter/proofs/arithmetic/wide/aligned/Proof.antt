@@ -1,4 +1,4 @@
-use mathlib.Core.Path.{_≡_, _∙_}
+use mathlib.Core.Path.{_≡_}
 use mathlib.Core.Bool.{Bool}
 use Prim.Native.Nat.{ℕ, _/_, _%_, _^_, _≤_}
 use native.Mathlib.Nat.{mul-le-mul-left}
@@ -9,6 +9,7 @@ use mir.Facts.{toZ-ofZ}
 use Rattle.exact.proofs.Ranges.{in-fits}
 use Rattle.exact.proofs.Operations.{sum-packs}
 use Rattle.encounter.specs.Private.Loops.{narrow, whole-part}
+use Rattle.encounter.proofs.arithmetic.Results.{fitted-rounds}
 use Rattle.encounter.proofs.arithmetic.WholeParts.{whole-le, whole-more}
 use borrow.Author.Needs.{needs}
 use Rattle.encounter.proofs.arithmetic.wide.aligned.Statement.{statement}
@@ -21,21 +22,22 @@ under up y r g e = whole-le up y (2 ^ g) y r (pow-pos g) (omega (arith, mul-le-m
 shifted-requires : tie.Need-shifted-requires
 shifted-requires c κs = search needs
 
-add-fit : tie.Need-add-fit
-add-fit c = let z = c .before .before in record { fits = omega (arith, under _ _ _ (z .args .g) (c .shifted .ensures), z .pre .1 .high, z .pre .2 .high) }
+add-part : tie.Need-add-part
+add-part c = let z = c .before .before .before in record { fits = omega (arith, under _ _ _ (z .args .g) (c .before .shifted .ensures .0), z .pre .1 .high, z .pre .2 .high) }
 
 fit-requires : tie.Need-fit-requires
 fit-requires c κs =
-    let z = c .before .before in (
-      omega (arith, under _ _ _ (z .args .g) (c .shifted .ensures), z .pre .1 .high, z .pre .2 .high),
+    let z = c .before .before .before in (
+      omega (arith, under _ _ _ (z .args .g) (c .before .shifted .ensures .0), z .pre .1 .high, z .pre .2 .high),
       rw (toZ-ofZ (in-fits (z .pre .0))) (omega (arith, z .pre .0 .above)),
     )
 
 returns : tie.Need-returns
 returns c =
-    let z = c .before .before .before in
+    let z = c .before .before .before .before in
+    let s = c .before .before .shifted .ensures in
     let k = sum-packs (z .args .up) 32 (narrow (z .args .a)) (narrow (z .args .b)) (z .args .g) (lit< tt) (z .pre .1) (z .pre .3) in
-    (rw (toZ-ofZ (in-fits (z .pre .0))) at (c .fit .ensures)) _ _ (omega (arith, z .pre .1 .low)) (whole-more _ _ _ _ _ (c .before .shifted .ensures)) ∙ k .is
+    fitted-rounds (rw (toZ-ofZ (in-fits (z .pre .0))) at (c .fit .ensures)) (omega (arith, z .pre .1 .low)) (whole-more _ _ _ _ _ (s .0), s .1) k
 
 pub aligned-spec : {M : Type 1} → statement M
-aligned-spec = tie.close (tie.spec shifted-requires add-fit fit-requires returns)
+aligned-spec = tie.close (tie.spec shifted-requires add-part fit-requires returns)

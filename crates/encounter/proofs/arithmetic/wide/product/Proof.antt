@@ -1,4 +1,4 @@
-use mathlib.Core.Path.{sym, _∙_}
+use mathlib.Core.Path.{sym}
 use Prim.Native.Nat.{ℕ, _*_, _^_, _≤_, _<_}
 use native.Mathlib.Nat.{mul-le-mul, zero-mul, mul-zero}
 use native.Mathlib.Omega.{arith}
@@ -9,10 +9,13 @@ use mir.Facts.{toZ-ofZ}
 use Rattle.exact.proofs.Integers.{pos-add}
 use Rattle.exact.proofs.Signed.{back-in, sum-fits-in}
 use Rattle.exact.proofs.Packing.{scaled-high}
+use Rattle.exact.proofs.Rounding.{lost-nought}
 use Rattle.exact.proofs.Operations.{normal, product-high-packs, product-none}
 use Rattle.exact.proofs.Ranges.{in-fits, below-square}
 use Rattle.encounter.specs.Private.Loops.{narrow}
+use Rattle.encounter.proofs.arithmetic.Results.{fitted-rounds, kept-rounds}
 use Rattle.encounter.proofs.arithmetic.WholeParts.{whole-le}
+use borrow.Author.Needs.{needs}
 use Rattle.encounter.proofs.arithmetic.wide.product.Statement.{statement}
 use Rattle.encounter.proofs.arithmetic.wide.product.Tie as tie
 
@@ -26,8 +29,14 @@ most {m} {n} h k =
 mul-h : tie.Need-mul-h
 mul-h c = let z = c .before .before in record { fits = below-square 32 _ _ (scaled-high (z .pre .0 .is-scaled)) (scaled-high (z .pre .1 .is-scaled)) }
 
+unchanged-requires : tie.Need-unchanged-requires
+unchanged-requires c κs = search needs
+
 returns : tie.Need-returns
-returns c = let z = c .before .before .before in sym (product-none (z .args .up) 32 (narrow (z .args .a)) (narrow (z .args .b)) (c .if1 .taken))
+returns c =
+    let z = c .before .before .before .before in
+    let e = product-none (z .args .up) 32 (narrow (z .args .a)) (narrow (z .args .b)) (c .before .if1 .taken) in
+    kept-rounds (z .args .up) _ (c .unchanged .ensures) (sym e) (lost-nought (z .args .up) 32 _ (lit< tt) e)
 
 plus-requires : tie.Need-plus-requires
 plus-requires c κs =
@@ -50,7 +59,7 @@ fit-requires c κs =
     let z = c .before .before .before .before .before .before in
     let p = c .before .before .plus in
     let r = c .before .raised in (
-      omega (arith, whole-le _ _ _ 8589934590 _ (lit< tt) (omega (arith, most (scaled-high (z .pre .0 .is-scaled)) (scaled-high (z .pre .1 .is-scaled)))) (c .divided .ensures)),
+      omega (arith, whole-le _ _ _ 8589934590 _ (lit< tt) (omega (arith, most (scaled-high (z .pre .0 .is-scaled)) (scaled-high (z .pre .1 .is-scaled)))) (c .divided .ensures .0)),
       rw (back-in w64 (r .result) (r .ok), r .ensures, back-in w64 (p .result) (p .ok), p .ensures, toZ-ofZ (in-fits (z .pre .0)), toZ-ofZ (in-fits (z .pre .1)))
           (omega (arith, z .pre .0 .above, z .pre .1 .above, pos-add (z .args .a .e) (z .args .b .e), pos-add (z .args .a .e +ℤ z .args .b .e) (pos 31))),
     )
@@ -65,10 +74,13 @@ returns-2 c =
     let m = normal (z .pre .0 .is-scaled) (λ e. some (rw e (zero-mul (z .args .b .m)))) in
     let n = normal (z .pre .1 .is-scaled) (λ e. some (rw e (mul-zero (z .args .a .m)))) in
     let low : 2 ^ 62 ≤ h = omega (arith, mul-le-mul (m .low) (n .low)) in
+    fitted-rounds
     (rw (back-in w64 (r .result) (r .ok), r .ensures, back-in w64 (p .result) (p .ok), p .ensures, toZ-ofZ (in-fits (z .pre .0)), toZ-ofZ (in-fits (z .pre .1))) at (c .fit .ensures))
-    _ _ (omega arith) (c .before .divided .ensures) ∙ product-high-packs (z .args .up) 32 31 (narrow (z .args .a)) (narrow (z .args .b)) (lit< tt) (omega arith) .is
+    (omega arith)
+    (c .before .divided .ensures)
+    (product-high-packs (z .args .up) 32 31 (narrow (z .args .a)) (narrow (z .args .b)) (lit< tt) (omega arith))
 
 pub product-spec : {M : Type 1} → statement M
 product-spec =
     tie.close
-    (tie.spec mul-h returns plus-requires raised-requires divided-requires fit-requires returns-2)
+    (tie.spec mul-h unchanged-requires returns plus-requires raised-requires divided-requires fit-requires returns-2)

@@ -5,22 +5,39 @@ use mir.Syntax.{w64}
 use mir.Facts.{toZ-ofZ}
 use Rattle.exact.proofs.Integers.{gap, gap-above}
 use Rattle.exact.proofs.Signed.{diff-fits-in}
-use Rattle.exact.proofs.Operations.{normal, sum-none, sum-comm}
+use Rattle.exact.proofs.Operations.{normal, sum-none, sum-kept, sum-comm, lost-comm}
 use Rattle.exact.proofs.Ranges.{in-fits}
 use Rattle.encounter.specs.Private.Loops.{narrow}
+use Rattle.encounter.proofs.arithmetic.Results.{kept-rounds}
 use borrow.Author.Needs.{needs}
 use Rattle.encounter.proofs.arithmetic.wide.sum.Statement.{statement}
 use Rattle.encounter.proofs.arithmetic.wide.sum.Tie as tie
 
+unchanged-requires : tie.Need-unchanged-requires
+unchanged-requires c κs = search needs
+
 returns : tie.Need-returns
-returns c = let z = c .before .before in sym (sum-none (z .args .up) 32 (narrow (z .args .a)) (narrow (z .args .b)) (lit< tt) (z .pre .0 .is-scaled) (c .if1 .taken))
+returns c =
+    let z = c .before .before .before in
+    let a = narrow (z .args .a) in
+    let b = narrow (z .args .b) in
+    let n = z .pre .0 .is-scaled in
+    let e = c .before .if1 .taken in
+    kept-rounds (z .args .up) _ (c .unchanged .ensures) (sym (sum-none (z .args .up) 32 a b (lit< tt) n e)) (sum-kept (z .args .up) 32 a b (lit< tt) n e)
+
+unchanged-requires-2 : tie.Need-unchanged-requires-2
+unchanged-requires-2 c κs = search needs
 
 returns-2 : tie.Need-returns-2
 returns-2 c =
-    let z = c .before .before .before .before in
+    let z = c .before .before .before .before .before in
     let a = narrow (z .args .a) in
     let b = narrow (z .args .b) in
-    sym (sum-comm (z .args .up) 32 a b (lit< tt) ∙ sum-none (z .args .up) 32 b a (lit< tt) (z .pre .1 .is-scaled) (c .if2 .taken))
+    let n = z .pre .1 .is-scaled in
+    let e = c .before .if2 .taken in
+    kept-rounds (z .args .up) _ (c .unchanged2 .ensures)
+    (sym (sum-comm (z .args .up) 32 a b (lit< tt) ∙ sum-none (z .args .up) 32 b a (lit< tt) n e))
+    (lost-comm (z .args .up) 32 a b (lit< tt) ∙ sum-kept (z .args .up) 32 b a (lit< tt) n e)
 
 gap-requires : tie.Need-gap-requires
 gap-requires c κs =
@@ -59,13 +76,17 @@ returns-3 c = search needs
 returns-4 : tie.Need-returns-4
 returns-4 c =
     let z = c .before .before .before .before .before .before .before .before .before in
-    c .aligned2 .ensures ∙ sum-comm (z .args .up) 32 (narrow (z .args .b)) (narrow (z .args .a)) (lit< tt)
+    let a = narrow (z .args .a) in
+    let b = narrow (z .args .b) in
+    (c .aligned2 .ensures .0 ∙ sum-comm (z .args .up) 32 b a (lit< tt), c .aligned2 .ensures .1 ∙ lost-comm (z .args .up) 32 b a (lit< tt))
 
 pub sum-spec : {M : Type 1} → statement M
 sum-spec =
     tie.close
     (tie.spec
+    unchanged-requires
     returns
+    unchanged-requires-2
     returns-2
     gap-requires
     gap-requires-2

@@ -1,6 +1,6 @@
-use mathlib.Core.Bool.{true}
 use Rattle.exact.proofs.Accepted.{facts}
-use Rattle.encounter.proofs.steps.Opening.{letters-fine, t-are, side-start-fine, bound-fine, opened-is}
+use Rattle.encounter.proofs.steps.Opening.{t-are, side-letters-fine, side-start-fine, bound-fine, opened-is}
+use borrow.Author.Needs.{needs}
 use Rattle.encounter.proofs.calls.opening.opened.Statement.{statement}
 use Rattle.encounter.proofs.calls.opening.opened.Tie as tie
 
@@ -19,19 +19,39 @@ open-side-requires c κs =
 open-side-requires-2 : tie.Need-open-side-requires-2
 open-side-requires-2 c κs =
     let z = c .before .before .before in
-    (facts (z .pre .0) .bounds, z .pre .1, c .before .exponential-sums .ensures (z .args .E) (t-are (z .args .E) (z .pre .0) (c .before .before .letters .ensures) (z .pre .1)) .1)
+    let l = c .before .before .letters .ensures in
+    (facts (z .pre .0) .bounds, z .pre .1, c .before .exponential-sums .ensures (z .args .E) (t-are (z .args .E) (z .pre .0) l (z .pre .1)) .1)
+
+either-side-requires : tie.Need-either-side-requires
+either-side-requires c κs = search needs
 
 bound-requires : tie.Need-bound-requires
-bound-requires c κs = let z = c .before .before .before .before in letters-fine true (z .args .E) (facts (z .pre .0) .bounds) (z .pre .1)
+bound-requires c κs =
+    let o = c .before .before .before in
+    let z = o .before .before .before .before in
+    side-letters-fine (z .args .E) (o .open-side2 .ensures .0) (facts (z .pre .0) .bounds)
 
 first-tail-requires : tie.Need-first-tail-requires
-first-tail-requires c κs = let z = c .before .before .before .before .before in let f = facts (z .pre .0) .bounds in (bound-fine (z .args .E) f (z .pre .1) (c .bound .ensures), side-start-fine (z .args .E) f (c .before .open-side2 .ensures))
+first-tail-requires c κs =
+    let o = c .before .before .before .before in
+    let z = o .before .before .before .before in
+    let f = facts (z .pre .0) .bounds in
+    let h = o .open-side2 .ensures .0 in
+    (bound-fine (z .args .E) h f (c .bound .ensures), side-start-fine (z .args .E) h f)
+
+unless-requires : tie.Need-unless-requires
+unless-requires c κs = search needs
+
+unless-requires-2 : tie.Need-unless-requires-2
+unless-requires-2 c κs = search needs
 
 returns : tie.Need-returns
 returns c =
-    let z = c .before .before .before .before .before .before .before in
-    opened-is (z .args .E) (z .pre .1) (c .before .before .before .before .open-side .ensures) (c .before .before .before .open-side2 .ensures)
-    (c .before .before .before .before .before .exponential-sums .ensures (z .args .E) (t-are (z .args .E) (z .pre .0) (c .before .before .before .before .before .before .letters .ensures) (z .pre .1)) .2) (c .before .before .bound .ensures) (c .before .first-tail .ensures)
+    let t = c .before .before .before in
+    let o = t .before .before .before .before .before in
+    let z = o .before .before .before .before in
+    let sums = o .before .before .exponential-sums .ensures (z .args .E) (t-are (z .args .E) (z .pre .0) (o .before .before .before .letters .ensures) (z .pre .1)) in
+    opened-is (z .args .E) _ _ _ (o .before .open-side .ensures) (o .open-side2 .ensures) (sums .2) (t .before .bound .ensures) (t .first-tail .ensures) (t .before .before .either-side .ensures) (c .before .unless .ensures) (c .unless2 .ensures)
 
 pub opened-spec : {M : Type 1} → statement M
 opened-spec =
@@ -41,6 +61,9 @@ opened-spec =
     exponential-sums-requires
     open-side-requires
     open-side-requires-2
+    either-side-requires
     bound-requires
     first-tail-requires
+    unless-requires
+    unless-requires-2
     returns)

@@ -1,5 +1,6 @@
 use native.Mathlib.Nat.{mul-pos, mul-le-mul}
 use native.Mathlib.Omega.{arith}
+use Rattle.exact.specs.Arithmetic.{traced}
 use borrow.Author.Needs.{needs}
 use Rattle.encounter.proofs.steps.letters.excess.Statement.{statement}
 use Rattle.encounter.proofs.steps.letters.excess.Tie as tie
@@ -19,6 +20,7 @@ ratio-requires c κs =
     (omega (arith, c .before .times .ensures .1), omega (arith, c .before .times .ensures .1), omega (arith, c .before .times .ensures .0, mul-pos (z .pre .1) (z .pre .1)))
 
 returns : tie.Need-returns
+unfolding traced
 returns c = rw (c .ratio .ensures, c .before .times2 .ensures .0, c .before .before .times .ensures .0)
 
 pub excess-spec : {M : Type 1} → statement M

@@ -1,7 +1,8 @@
 use native.Mathlib.Nat.{mul-pos}
 use native.Mathlib.Omega.{arith}
+use Rattle.exact.specs.Arithmetic.{traced}
 use Rattle.exact.specs.Series.{a₀}
-use Rattle.exact.specs.Steps.{start, side-start}
+use Rattle.exact.specs.Steps.{start}
 use borrow.Author.Needs.{needs}
 use Rattle.encounter.proofs.steps.letters.start.Statement.{statement}
 use Rattle.encounter.proofs.steps.letters.start.Tie as tie
@@ -21,7 +22,7 @@ ratio-requires c κs =
     (omega (arith, c .before .times .ensures .1), omega (arith, c .times2 .ensures .1), omega (arith, c .times2 .ensures .0, mul-pos (z .pre .sx-pos) (z .pre .sy-pos)))
 
 returns : tie.Need-returns
-unfolding side-start start a₀
+unfolding start a₀ traced
 returns c = rw (c .ratio .ensures, c .before .times2 .ensures .0, c .before .before .times .ensures .0)
 
 pub start-spec : {M : Type 1} → statement M

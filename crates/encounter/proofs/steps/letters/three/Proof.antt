@@ -1,7 +1,6 @@
 use lib.Dec.{lit≤}
-use Rattle.exact.specs.Steps.{add}
 use Rattle.exact.proofs.Ranges.{widen}
-use Rattle.encounter.proofs.arithmetic.Fitting.{sum-of}
+use Rattle.encounter.proofs.steps.Tracing.{sum-fine}
 use borrow.Author.Needs.{needs}
 use Rattle.encounter.proofs.steps.letters.three.Statement.{statement}
 use Rattle.encounter.proofs.steps.letters.three.Tie as tie
@@ -12,10 +11,9 @@ sum-requires c κs = search needs
 sum-requires-2 : tie.Need-sum-requires-2
 sum-requires-2 c κs =
     let z = c .before in
-    (widen (lit≤ tt) (sum-of (z .args .up) (c .sum .ensures) (z .pre .0) (z .pre .1)), widen (lit≤ tt) (z .pre .2))
+    (widen (lit≤ tt) (sum-fine (z .args .up) _ _ (c .sum .ensures) (z .pre .0) (z .pre .1)), widen (lit≤ tt) (z .pre .2))
 
 returns : tie.Need-returns
-unfolding add
 returns c = rw (c .sum2 .ensures, c .before .sum .ensures)
 
 pub three-spec : {M : Type 1} → statement M

@@ -1,7 +1,7 @@
 use native.Mathlib.Numerals.{add-one}
 use native.Mathlib.Omega.{arith}
 use lib.Dec.{lit≤}
-use Rattle.exact.specs.Steps.{mul, div}
+use Rattle.exact.specs.Arithmetic.{rounded}
 use Rattle.exact.proofs.Ranges.{widen}
 use Rattle.encounter.proofs.arithmetic.Fitting.{product-of}
 use borrow.Author.Needs.{needs}
@@ -20,7 +20,7 @@ overs-requires c κs =
     ((λ up. widen (lit≤ tt) (product-of up (c .products .ensures up) (z .pre .1 up .1) (z .pre .1 up .0))), omega arith, omega (arith, z .pre .0))
 
 returns : tie.Need-returns
-unfolding mul div
+unfolding rounded
 returns c = λ up. rw (c .overs .ensures up, c .before .products .ensures up, add-one)
 
 pub next-r-spec : {M : Type 1} → statement M

@@ -1,5 +1,7 @@
+use mathlib.Core.Path.{_∙_}
 use mathlib.Core.Bool.{true, false}
 use Rattle.encounter.proofs.steps.Pairs.{by-side}
+use borrow.Author.Needs.{needs}
 use Rattle.encounter.proofs.steps.sides.products.Statement.{statement}
 use Rattle.encounter.proofs.steps.sides.products.Tie as tie
 
@@ -9,8 +11,11 @@ product-requires c κs = c .pre false
 product-requires-2 : tie.Need-product-requires-2
 product-requires-2 c κs = c .before .pre true
 
+numbers-requires : tie.Need-numbers-requires
+numbers-requires c κs = search needs
+
 returns : tie.Need-returns
-returns c = by-side _ (c .before .product .ensures) (c .product2 .ensures)
+returns c = by-side _ (c .numbers .ensures .0 ∙ c .before .before .product .ensures .0) (c .numbers .ensures .1 ∙ c .before .product2 .ensures .0)
 
 pub products-spec : {M : Type 1} → statement M
-products-spec = tie.close (tie.spec product-requires product-requires-2 returns)
+products-spec = tie.close (tie.spec product-requires product-requires-2 numbers-requires returns)

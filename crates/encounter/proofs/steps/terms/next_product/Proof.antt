@@ -1,6 +1,6 @@
 use native.Mathlib.Omega.{arith}
 use lib.Dec.{lit≤}
-use Rattle.exact.specs.Steps.{add, mul, div}
+use Rattle.exact.specs.Arithmetic.{rounded}
 use Rattle.exact.proofs.Ranges.{widen}
 use Rattle.encounter.proofs.arithmetic.Fitting.{sum-of, over-of}
 use Rattle.encounter.proofs.steps.terms.next_product.Statement.{statement}
@@ -22,7 +22,7 @@ products-requires c κs =
     (widen (lit≤ tt) (z .pre .1 up), widen (lit≤ tt) (sum-of up (c .sums .ensures up) (z .pre .2 up) (widen (lit≤ tt) p)))
 
 returns : tie.Need-returns
-unfolding add mul div
+unfolding rounded
 returns c = λ up. rw (c .products .ensures up, c .before .sums .ensures up, c .before .before .overs-by .ensures up)
 
 pub next-product-spec : {M : Type 1} → statement M

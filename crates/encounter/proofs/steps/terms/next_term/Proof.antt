@@ -1,36 +1,25 @@
 use mathlib.Core.Path.{_≡_}
-use Prim.Native.Nat.{ℕ, suc, _+_, _*_, _^_, _≤_, _<_}
-use Rattle.exact.specs.Numbers.{largest-order}
-use native.Mathlib.Nat.{mul-le-mul}
+use Prim.Native.Nat.{ℕ, _+_, _^_, _≤_}
 use native.Mathlib.Omega.{arith}
-use lib.Dec.{lit<, lit≤}
+use lib.Dec.{lit≤}
 use mathlib.Core.Bool.{Bool}
 use Rattle.exact.specs.declared.Scaled.{Scaled}
 use Rattle.exact.specs.Fraction.{_⊕_, _⊗_}
 use Rattle.exact.specs.Scaled.{value}
 use Rattle.exact.specs.Private.Ranges.{InRange}
 use Rattle.exact.specs.Private.Round.{round}
-use Rattle.exact.specs.Steps.{add, mul, div, next-c}
-use Rattle.exact.proofs.Order.{sum-half}
+use Rattle.exact.specs.Arithmetic.{rounded}
+use Rattle.exact.specs.Steps.{next-c}
 use Rattle.exact.proofs.Ranges.{widen}
 use Rattle.exact.proofs.Exponents.{mul-in}
-use Rattle.encounter.specs.Private.Loops.{side-of}
 use Rattle.encounter.proofs.arithmetic.Fitting.{product-of, sum-of, half-of}
+use Rattle.encounter.proofs.steps.Divisors.{divisor, divisor-low, divisor-max}
 use Rattle.encounter.proofs.steps.terms.next_term.Statement.{statement}
 use Rattle.encounter.proofs.steps.terms.next_term.Tie as tie
 
-divisor : (n : ℕ) → (n + 1) * (n + 2) ≡ suc n * suc (suc n)
-divisor n = omega arith
-
-divisor-low : (n : ℕ) → 0 < (n + 1) * (n + 2)
-divisor-low n = omega arith
-
-divisor-max : (n : ℕ) → n < largest-order → (n + 1) * (n + 2) < 2 ^ 32
-divisor-max n h = omega (arith, mul-le-mul {n₁ = n + 1} {m₁ = n + 2} {n₂ = largest-order} {m₂ = suc largest-order} (omega arith) (omega arith))
-
 -- the range of each number on the way
 module _ (up : Bool) where
-  hv-in : {h v hv : Scaled} → hv ≡ mul value (round up 32) h v → InRange 32 387 h → InRange 32 (2 ^ 22) v → InRange 32 (2 ^ 22 + 420) hv
+  hv-in : {h v hv : Scaled} → hv ≡ rounded up 32 .product h v → InRange 32 387 h → InRange 32 (2 ^ 22) v → InRange 32 (2 ^ 22 + 420) hv
   hv-in e i k = rw e (widen (lit≤ tt) (mul-in up i k))
 
   first-in : {p x a : Scaled} → a ≡ round up 32 (value p ⊕ value x) → InRange 32 (2 ^ 22) p → InRange 32 (2 ^ 22 + 421) x → InRange 32 (2 ^ 22 + 423) a
@@ -92,7 +81,7 @@ overs-requires c κs =
     )
 
 returns : tie.Need-returns
-unfolding next-c add mul div
+unfolding next-c rounded
 returns c =
     let z = c .before .before .before .before .before .before .before .before .before .before .before .before in
     λ up.
@@ -104,7 +93,6 @@ returns c =
       c .before .before .before .before .products .ensures up,
       c .before .before .before .before .before .sums .ensures up,
       c .before .before .before .before .before .before .halves .ensures up,
-      ← sum-half up 32 (side-of up (z .args .s .p)) (side-of up (z .args .hv)) (lit< tt),
       divisor (z .args .n),
       z .pre .3 up,
     )

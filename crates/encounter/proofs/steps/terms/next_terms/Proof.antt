@@ -2,7 +2,8 @@ use Prim.Native.Nat.{_^_}
 use native.Mathlib.Numerals.{add-two}
 use native.Mathlib.Omega.{arith}
 use lib.Dec.{lit≤}
-use Rattle.exact.specs.Steps.{add, mul, div, next-p, next-v, next-y, next}
+use Rattle.exact.specs.Arithmetic.{rounded}
+use Rattle.exact.specs.Steps.{next-p, next-v, next-y, next}
 use Rattle.exact.proofs.Ranges.{widen}
 use Rattle.exact.proofs.Exponents.{c-in}
 use Rattle.encounter.proofs.arithmetic.Fitting.{product-of}
@@ -23,7 +24,7 @@ reciprocal-of-requires : tie.Need-reciprocal-of-requires
 reciprocal-of-requires c κs = let z = c .before .before .before .before in (omega arith, omega (arith, z .pre .0))
 
 next-term-requires : tie.Need-next-term-requires
-unfolding mul
+unfolding rounded
 next-term-requires c κs = let z = c .before .before .before .before .before in (z .pre .0, z .pre .1, z .pre .2, c .before .before .products .ensures)
 
 next-product-requires : tie.Need-next-product-requires
@@ -53,7 +54,7 @@ sums-requires c κs =
     )
 
 returns : tie.Need-returns
-unfolding next next-p next-v next-y add mul div
+unfolding next next-p next-v next-y rounded
 returns c =
     λ up.
     rw (

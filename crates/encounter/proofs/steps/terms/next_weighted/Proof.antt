@@ -1,6 +1,6 @@
 use native.Mathlib.Omega.{arith}
 use lib.Dec.{lit≤}
-use Rattle.exact.specs.Steps.{add, div}
+use Rattle.exact.specs.Arithmetic.{rounded}
 use Rattle.exact.proofs.Ranges.{widen}
 use Rattle.encounter.proofs.arithmetic.Fitting.{over-of}
 use Rattle.encounter.proofs.steps.terms.next_weighted.Statement.{statement}
@@ -15,7 +15,7 @@ sums-requires c κs =
     λ up. (widen (lit≤ tt) (z .pre .1 up), widen (lit≤ tt) (over-of up _ (c .overs-by .ensures up) (z .pre .0 .some) (omega (arith, z .pre .0 .small)) (z .pre .2 up)))
 
 returns : tie.Need-returns
-unfolding add div
+unfolding rounded
 returns c = λ up. rw (c .sums .ensures up, c .before .overs-by .ensures up)
 
 pub next-weighted-spec : {M : Type 1} → statement M
