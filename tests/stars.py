@@ -24,7 +24,7 @@ from checks import Checks
 
 STARS = options.ROOT / "crates/encounter/specs/Stars.antt"
 # The rows of each case, in document 01's order, and of the encounter beside them.
-ROWS = [2, 2, 2, 2, 14, 4, 5, 2, 1, 3, 22]
+ROWS = [2, 2, 2, 2, 14, 4, 3, 5, 2, 1, 3, 22]
 ENCOUNTERS = {
     "E₁": (10, 10, 10, 0, 0),
     "E₂": (8, 1, 1, 8, 0),

@@ -5,7 +5,7 @@ ghost use Prim.Native.Nat.{suc, _+_, _≤_, _<_};
 ghost use lib.Dec.{ltb};
 ghost use Rattle.exact.specs.Numbers.{largest-order};
 ghost use Rattle.encounter.specs.Session.{empty as empty-session, state, conjunction-of};
-ghost use Rattle.encounter.specs.Private.Held.{Begun, with-losses};
+ghost use Rattle.encounter.specs.Private.Held.{Begun, at-order, with-losses};
 ghost use Rattle.encounter.specs.Calls.{begins, begins-conjunction, adds, reads, call, Reached};
 ghost use Rattle.encounter.specs.Enclosure.{Demands};
 ghost use Rattle.encounter.specs.Claims.{Claims};
@@ -37,8 +37,9 @@ use crate::state::Session;
 use crate::state::Side;
 use crate::state::Terms;
 use crate::steps::letters::letters;
-use crate::steps::losses::next_losses;
+use crate::steps::progress::Progress;
 use crate::steps::progress::advance;
+use crate::steps::progress::exact_step;
 use exact::Conjunction;
 use exact::Encounter;
 use exact::LARGEST_ORDER;
@@ -142,16 +143,13 @@ fn later_side(s: Side, terms: Terms) -> Side
     }
 }
 
-// A session `count` terms on, with its count of exact terms and its losses as they are.
-fn later(s: Session, count: u32) -> Session
-    requires { ⌜ (Begun s) × (s .N + count ≤ largest-order) ⌝ }
-    ensures { λ r. ⌜ r ≡ with-losses (state (conjunction-of s) (s .N + count)) (s .exact) (s .lossless) ⌝ }
+// A session at another order, with its count of exact terms and its losses as they are.
+fn at_order(s: Session, n: u32, p: Progress) -> Session
+    ensures { λ r. ⌜ r ≡ at-order s n p ⌝ }
 {
-    let p = advance(s, count);
     let lower = later_side(s.lower, p.lower);
     let upper = later_side(s.upper, p.upper);
     let d = p.d;
-    let n = s.N + count;
     let mut session = s;
     session.N = n;
     session.lower = lower;
@@ -160,15 +158,24 @@ fn later(s: Session, count: u32) -> Session
     session
 }
 
+// A session `count` terms on, with its count of exact terms and its losses as they are.
+fn later(s: Session, count: u32) -> Session
+    requires { ⌜ (Begun s) × (s .N + count ≤ largest-order) ⌝ }
+    ensures { λ r. ⌜ r ≡ with-losses (state (conjunction-of s) (s .N + count)) (s .exact) (s .lossless) ⌝ }
+{
+    at_order(s, s.N + count, advance(s, count))
+}
+
 // A session one term on, where nothing was lost before.
 fn one_more(s: Session) -> Session
     requires { ⌜ (Begun s) × (s .N < largest-order) × (0 < s .lossless) ⌝ }
     ensures { λ r. ⌜ r ≡ state (conjunction-of s) (suc (s .N)) ⌝ }
 {
-    let lost = next_losses(s);
+    let next = exact_step(s);
+    let lost = next.losses;
     let exact = s.exact + unless(lost.term);
     let lossless = unless(lost.operand);
-    let mut session = later(s, 1);
+    let mut session = at_order(s, s.N + 1, next.progress);
     session.exact = exact;
     session.lossless = lossless;
     session

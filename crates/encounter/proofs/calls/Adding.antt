@@ -13,8 +13,11 @@ use Rattle.exact.specs.Losses.{either-lost, exact-terms, lossless}
 use Rattle.exact.specs.Numbers.{largest-order}
 use Rattle.exact.proofs.Losses.{exact-le, lossless-all, exact-more, exact-ends, later-same}
 use Rattle.encounter.specs.declared.state.Session.{Session}
+use Rattle.encounter.specs.declared.steps.progress.Progress.{Progress}
 use Rattle.encounter.specs.Session.{state, conjunction-of}
-use Rattle.encounter.specs.Private.Held.{Begun, with-losses}
+use Rattle.encounter.specs.Private.Held.{Begun, progress, at-order, with-losses}
+use Rattle.encounter.proofs.steps.Progressing.{added-is}
+use Rattle.encounter.proofs.steps.Opening.{opposite}
 use Rattle.encounter.proofs.calls.Invariant.{state-begun}
 
 -- ---- the count and the losses at N ≥ 1
@@ -44,10 +47,6 @@ is-some false e l = let f : ⊥ = omega (arith, e) in absurd f
 is-none : (b : Bool) {n : ℕ} → n ≡ cond b 1 0 → n ≤ 0 → b ≡ false
 is-none true e l = let f : ⊥ = omega (arith, e) in absurd f
 is-none false e l = refl
-
-opposite : (b : Bool) {o : Bool} {n : ℕ} → n ≡ cond o 0 1 → o ≡ not b → n ≡ cond b 1 0
-opposite true f e = rw e at f
-opposite false f e = rw e at f
 
 -- what the loop's test says
 pub may-go-on : (m k : ℕ) {t : Bool} → t ≡ (ltb 0 m && ltb 0 k) → t ≡ true → (0 < m) × (0 < k)
@@ -85,16 +84,20 @@ module _ (s : Session) (b : Begun s) where
   pub one-more-is :
       {t o : Bool} {x y : ℕ} {r : Session} →
       0 < s .lossless →
+      (p : Progress) →
+      p ≡ progress (s .encounter) (s .N) →
       (t ≡ either-lost (s .encounter) (s .N)) × (o ≡ not (lossless (s .encounter) (suc (s .N)))) →
       x ≡ cond t 0 1 →
       y ≡ cond o 0 1 →
-      r ≡ with-losses (state (conjunction-of s) (s .N + 1)) (s .exact) (s .lossless) →
+      r ≡ at-order s (s .N + 1) p →
       with-losses r (s .exact + x) y ≡ state (conjunction-of s) (suc (s .N))
   unfolding state
-  one-more-is {t} {x = x} {y} l e ex ey er =
+  one-more-is {t} {x = x} {y} l p ep e ex ey er =
+      let n : s .N + 1 - 1 ≡ s .N = omega arith in
+      let is = er ∙ added-is s b (s .N + 1) p (omega arith) (rw n ep) in
       let a : s .exact + x ≡ exact-terms (s .encounter) (suc (s .N)) = rw (exact-is, ex) (more-exact (s .encounter) (s .N) t (b .low) (nothing-lost l) (e .0)) in
       let c : y ≡ cond (lossless (s .encounter) (suc (s .N))) 1 0 = opposite (lossless (s .encounter) (suc (s .N))) ey (e .1) in
-      rw (er, a, c, add-one)
+      rw (is, a, c, add-one)
 
   -- k terms more, where there are none or something was lost: the count and the losses are still those before
   same-losses : (k : ℕ) → (k ≡ 0) ⊎ (s .lossless ≤ 0) → (s .exact ≡ exact-terms (s .encounter) (s .N + k)) × (s .lossless ≡ cond (lossless (s .encounter) (s .N + k)) 1 0)

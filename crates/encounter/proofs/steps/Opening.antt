@@ -1,8 +1,7 @@
 -- What a begin forms, and that it is the session at order 1.
-use mathlib.Core.Path.{_≡_, refl, sym, _∙_, ap, subst}
-use mathlib.Core.Bool.{Bool, true, false, cond, not, _||_}
+use mathlib.Core.Path.{_≡_, sym, _∙_, ap, subst}
+use mathlib.Core.Bool.{Bool, true, false, cond, not, _||_, Bool·not-not}
 use Prim.Native.Nat.{ℕ}
-use lib.Dec.{lit≤}
 use Rattle.exact.specs.declared.Scaled.{Scaled}
 use Rattle.exact.specs.declared.Traced.{Traced}
 use Rattle.exact.specs.Arithmetic.{rounded, traced}
@@ -11,7 +10,7 @@ use Rattle.exact.specs.Private.Ranges.{InRange, Bounds, Letters-in}
 use Rattle.exact.specs.declared.Encounter.{Encounter}
 use Rattle.exact.specs.Refusals.{Accepted}
 use Rattle.exact.specs.Steps.{LettersOf, TermsOf, start, first, terms, next-d, tail-term, bound, side-letters, side-start, side-terms, exponential-sum, r256, M, d}
-use Rattle.exact.proofs.Exponents.{letters-in, start-in, tail-in, bound-in}
+use Rattle.exact.proofs.Exponents.{letters-in, start-in, bound-in}
 use Rattle.exact.proofs.Losses.{letters-number, start-number, terms-number, first-exact}
 use Rattle.encounter.specs.declared.state.Letters.{Letters}
 use Rattle.encounter.specs.declared.state.Side.{Side}
@@ -20,6 +19,7 @@ use Rattle.encounter.specs.declared.steps.losses.Losses.{Losses}
 use Rattle.encounter.specs.declared.steps.losses.TracedLetters.{TracedLetters}
 use Rattle.encounter.specs.declared.steps.losses.TracedTerms.{TracedTerms}
 use Rattle.encounter.specs.declared.calls.opening.OpenSide.{OpenSide}
+use Rattle.encounter.specs.declared.calls.opening.OpenSides.{OpenSides}
 use Rattle.encounter.specs.Session.{state, no-object, side}
 use Rattle.encounter.specs.Private.Held.{held-letters, step-letters, held-terms, way-letters, way-terms, T-of}
 use Rattle.encounter.proofs.steps.SideNumbers.{letters-of-side, terms-of-side}
@@ -72,13 +72,6 @@ module _ (up : Bool) (E : Encounter) where
 
 -- ---- M and d(1)
 
-tail-one : (c M : Scaled) → tail-term (rounded true 32) c M 1 ≡ next-d (rounded true 32) M 0 c
-unfolding tail-term
-tail-one c M = refl
-
-pub tail-fine : {c M x : Scaled} → InRange 32 177 c → InRange 32 400 M → x ≡ next-d (rounded true 32) M 0 c → InRange 32 1100 x
-tail-fine {c} {M} i k e = rw (e, ← tail-one c M) (tail-in true i k 1 (lit≤ tt))
-
 -- from the upper side at order 1
 module _ (E : Encounter) {hi : Side} (eh : hi ≡ side true E 1) where
   start-is : hi .terms .c ≡ side-start true E
@@ -101,37 +94,33 @@ module _ (E : Encounter) {hi : Side} (eh : hi ≡ side true E 1) where
   bound-fine f em = rw em (bound-in true _ (side-letters-fine f))
 
   tail-is : {m x : Scaled} → m ≡ bound (rounded true 32) (step-letters (hi .letters)) → x ≡ next-d (rounded true 32) m 0 (hi .terms .c) → x ≡ d E 1
-  unfolding d
-  tail-is em ex = rw (ex, bound-is em, start-is, tail-one (side-start true E) (M E))
+  unfolding d tail-term
+  tail-is em ex = rw (ex, bound-is em, start-is)
 
 -- ---- the count of exact terms and the losses
 
-unless-not : (b : Bool) {n : ℕ} → n ≡ cond b 0 1 → n ≡ cond (not b) 1 0
-unless-not true e = e
-unless-not false e = e
+pub opposite : (b : Bool) {o : Bool} {n : ℕ} → n ≡ cond o 0 1 → o ≡ not b → n ≡ cond b 1 0
+opposite true f e = rw e at f
+opposite false f e = rw e at f
 
-module _ (E : Encounter) where
-  count-is : {a b : Bool} {n : ℕ} → a ≡ term-lost false E 0 → b ≡ term-lost true E 0 → n ≡ cond (a || b) 0 1 → n ≡ exact-terms E 1
-  unfolding either-lost
-  count-is ea eb en = rw (en, ea, eb, first-exact E)
-
-  lossless-is : {a b : Bool} {n : ℕ} → a ≡ operand-lost (traced-letters false E) (traced-terms false E 0) → b ≡ operand-lost (traced-letters true E) (traced-terms true E 0)
-      → n ≡ cond (a || b) 0 1 → n ≡ cond (lossless E 1) 1 0
-  unfolding lossless
-  lossless-is {a} {b} ea eb en = rw (← ea, ← eb) (unless-not (a || b) en)
+-- on either side
+pub either-are : (E : Encounter) {lo hi : OpenSide} {l : Losses} → Opened false E lo → Opened true E hi
+    → (l .term ≡ (lo .losses .term || hi .losses .term)) × (l .operand ≡ (lo .losses .operand || hi .losses .operand))
+    → (l .term ≡ either-lost E 0) × (l .operand ≡ not (lossless E 1))
+unfolding either-lost lossless
+either-are E a b e = (rw (e .0, a .1, b .1), rw (e .1, a .2, b .2) (sym (Bool·not-not _)))
 
 -- ---- the session
 
-pub opened-is : (E : Encounter) (lo hi : OpenSide) (l : Losses) {r m x : Scaled} {n k : ℕ} → Opened false E lo → Opened true E hi → r ≡ r256 E
-    → m ≡ bound (rounded true 32) (step-letters (hi .side .letters)) → x ≡ next-d (rounded true 32) m 0 (hi .side .terms .c)
-    → (l .term ≡ (lo .losses .term || hi .losses .term)) × (l .operand ≡ (lo .losses .operand || hi .losses .operand)) → n ≡ cond (l .term) 0 1 → k ≡ cond (l .operand) 0 1
-    → record { encounter = E; object = 0; time = 0; N = 1; lower = lo .side; upper = hi .side; r256 = r; M = m; d = x; exact = n; lossless = k } ≡ state (no-object E) 1
+pub opened-is : (E : Encounter) (o : OpenSides) {m x : Scaled} {n k : ℕ}
+    → (o .lower ≡ side false E 1) × (o .upper ≡ side true E 1) × (o .losses .term ≡ either-lost E 0) × (o .losses .operand ≡ not (lossless E 1)) × (o .r256 ≡ r256 E)
+    → m ≡ bound (rounded true 32) (step-letters (o .upper .letters)) → x ≡ next-d (rounded true 32) m 0 (o .upper .terms .c)
+    → n ≡ cond (o .losses .term) 0 1 → k ≡ cond (o .losses .operand) 0 1
+    → record { encounter = E; object = 0; time = 0; N = 1; lower = o .lower; upper = o .upper; r256 = o .r256; M = m; d = x; exact = n; lossless = k } ≡ state (no-object E) 1
 unfolding state
-opened-is E lo hi l el eh er em ex es en ek =
-    let a = el .0 in
-    let b = eh .0 in
-    let f = bound-is E b em in
-    let g = tail-is E b em ex in
-    let c = count-is E (el .1) (eh .1) (rw (es .0) at en) in
-    let o = lossless-is E (el .2) (eh .2) (rw (es .1) at ek) in
-    λ i. record { encounter = E; object = 0; time = 0; N = 1; lower = a i; upper = b i; r256 = er i; M = f i; d = g i; exact = c i; lossless = o i }
+opened-is E o {n = n} e em ex en ek =
+    let f = bound-is E (e .1) em in
+    let g = tail-is E (e .1) em ex in
+    let c : n ≡ exact-terms E 1 = rw (en, e .2, first-exact E) in
+    let l = opposite (lossless E 1) ek (e .3) in
+    λ i. record { encounter = E; object = 0; time = 0; N = 1; lower = e .0 i; upper = e .1 i; r256 = e .4 i; M = f i; d = g i; exact = c i; lossless = l i }

@@ -14,14 +14,13 @@ use Rattle.exact.proofs.Accepted.{facts}
 use Rattle.exact.proofs.Ranges.{widen}
 use Rattle.exact.proofs.Exponents.{terms-in, tail-in, bound-in, letters-in, start-in}
 use Rattle.encounter.specs.declared.state.Terms.{Terms}
-use Rattle.encounter.specs.declared.state.Side.{Side}
 use Rattle.encounter.specs.declared.state.Session.{Session}
 use Rattle.encounter.specs.declared.steps.progress.Progress.{Progress}
 use Rattle.encounter.specs.declared.arithmetic.wide.Wide.{Wide}
 use Rattle.encounter.specs.declared.steps.sides.LetterPairs.{LetterPairs}
 use Rattle.encounter.specs.declared.steps.sides.TermPairs.{TermPairs}
 use Rattle.encounter.specs.Session.{side, state, conjunction-of}
-use Rattle.encounter.specs.Private.Held.{held-letters, step-letters, held-terms, step-terms, progress, with-losses, Begun}
+use Rattle.encounter.specs.Private.Held.{held-letters, step-letters, held-terms, step-terms, progress, at-order, with-losses, Begun}
 use Rattle.encounter.specs.Private.Loops.{narrow, letters-of, terms-of}
 use Rattle.encounter.proofs.steps.Pairs.{by-side}
 
@@ -41,7 +40,7 @@ module _ (s : Session) (b : Begun s) where
   unfolding state
   M-is = ap (λ (x : Session). x .M) (b .is)
 
-  M-range : InRange 32 400 (M E)
+  pub M-range : InRange 32 400 (M E)
   unfolding M side-letters
   M-range = bound-in true _ (letters-in true (facts (b .fine) .bounds))
 
@@ -87,7 +86,7 @@ module _ (s : Session) (b : Begun s) where
   unfolding state side
   upper-terms-are = ap (λ (x : Session). step-terms (x .upper .terms)) (b .is) ∙ ap (side-terms true (s .encounter)) index
 
-  tail-at : s .d ≡ d (s .encounter) (suc (s .N - 1))
+  pub tail-at : s .d ≡ d (s .encounter) (suc (s .N - 1))
   unfolding state
   tail-at = ap (λ (x : Session). x .d) (b .is) ∙ ap (d (s .encounter)) order
 
@@ -123,7 +122,7 @@ module _ (E : Encounter) (n : ℕ) where
   unfolding side-terms terms
   next-side up el et er = er ∙ rw (el, et, add-one)
 
-  next-d-is : {m x r : Scaled} → m ≡ M E → x ≡ d E (suc n) → r ≡ next-d (rounded true 32) m (n + 1) x → r ≡ d E (suc (n + 1))
+  pub next-d-is : {m x r : Scaled} → m ≡ M E → x ≡ d E (suc n) → r ≡ next-d (rounded true 32) m (n + 1) x → r ≡ d E (suc (n + 1))
   unfolding d tail-term
   next-d-is em ex er = er ∙ rw (em, ex, add-one)
 
@@ -152,22 +151,14 @@ module _ (E : Encounter) (n : ℕ) where
 
 -- the session after the terms of an add, by its fields: its count of exact terms and its losses are still those before
 module _ (s : Session) (b : Begun s) where
-  at-index : (n : ℕ) (p : Progress) (lo hi : Side) → p ≡ progress (s .encounter) n
-      → lo ≡ record { letters = s .lower .letters; exponential = s .lower .exponential; terms = p .lower }
-      → hi ≡ record { letters = s .upper .letters; exponential = s .upper .exponential; terms = p .upper }
-      → record { encounter = s .encounter; object = s .object; time = s .time; N = suc n; lower = lo; upper = hi; r256 = s .r256; M = s .M; d = p .d; exact = s .exact; lossless = s .lossless }
-      ≡ with-losses (state (conjunction-of s) (suc n)) (s .exact) (s .lossless)
+  at-index : (n : ℕ) (p : Progress) → p ≡ progress (s .encounter) n → at-order s (suc n) p ≡ with-losses (state (conjunction-of s) (suc n)) (s .exact) (s .lossless)
   unfolding state side progress
-  at-index n p lo hi e f g =
+  at-index n p e =
       let le = ap (λ (x : Session). x .lower .exponential) (b .is) in
       let he = ap (λ (x : Session). x .upper .exponential) (b .is) in
       let r = ap (λ (x : Session). x .r256) (b .is) in
-      rw (f, g, e, lower-letters-are s b, upper-letters-are s b, le, he, r, M-is s b)
+      rw (e, lower-letters-are s b, upper-letters-are s b, le, he, r, M-is s b)
 
-  pub added-is : (N : ℕ) (p : Progress) (lo hi : Side) → 1 ≤ N → p ≡ progress (s .encounter) (N - 1)
-      → lo ≡ record { letters = s .lower .letters; exponential = s .lower .exponential; terms = p .lower }
-      → hi ≡ record { letters = s .upper .letters; exponential = s .upper .exponential; terms = p .upper }
-      → record { encounter = s .encounter; object = s .object; time = s .time; N = N; lower = lo; upper = hi; r256 = s .r256; M = s .M; d = p .d; exact = s .exact; lossless = s .lossless }
-      ≡ with-losses (state (conjunction-of s) N) (s .exact) (s .lossless)
-  added-is zero p lo hi l e f g = let f : ⊥ = omega arith in absurd f
-  added-is (suc n) p lo hi l e f g = let k : suc n - 1 ≡ n = omega arith in at-index n p lo hi (rw k at e) f g
+  pub added-is : (N : ℕ) (p : Progress) → 1 ≤ N → p ≡ progress (s .encounter) (N - 1) → at-order s N p ≡ with-losses (state (conjunction-of s) N) (s .exact) (s .lossless)
+  added-is zero p l e = let f : ⊥ = omega arith in absurd f
+  added-is (suc n) p l e = let k : suc n - 1 ≡ n = omega arith in at-index n p (rw k at e)

@@ -63,6 +63,22 @@ with-losses s exact lossless = record {
   lossless = lossless;
 }
 
+-- a session at another order, with what an add changes
+abbrev pub at-order : Session → ℕ → Progress → Session
+at-order s N p = record {
+  encounter = s .encounter;
+  object = s .object;
+  time = s .time;
+  N = N;
+  lower = record { letters = s .lower .letters; exponential = s .lower .exponential; terms = p .lower };
+  upper = record { letters = s .upper .letters; exponential = s .upper .exponential; terms = p .upper };
+  r256 = s .r256;
+  M = s .M;
+  d = p .d;
+  exact = s .exact;
+  lossless = s .lossless;
+}
+
 -- what the terms of an add change, at order n + 1
 unfoldable pub progress : Encounter → ℕ → Progress
 progress E n = record { lower = held-terms (side-terms false E n); upper = held-terms (side-terms true E n); d = d E (suc n) }

@@ -1,10 +1,10 @@
 // The session of an accepted encounter at order 1, without object and time.
 ghost use mathlib.Core.Path.{_≡_};
-ghost use mathlib.Core.Bool.{true, cond};
+ghost use mathlib.Core.Bool.{true, false, cond, not};
 ghost use Rattle.exact.specs.Private.Ranges.{Bounds};
 ghost use Rattle.exact.specs.Refusals.{Accepted};
-ghost use Rattle.exact.specs.Steps.{exponential-sum};
-ghost use Rattle.exact.specs.Losses.{traced-letters, traced-terms, term-lost, operand-lost};
+ghost use Rattle.exact.specs.Steps.{exponential-sum, r256 as r256Of};
+ghost use Rattle.exact.specs.Losses.{traced-letters, traced-terms, term-lost, operand-lost, either-lost, lossless};
 ghost use Rattle.encounter.specs.Session.{side, state, no-object};
 ghost use Rattle.encounter.specs.Private.Held.{way-letters};
 use crate::state::Session;
@@ -20,7 +20,7 @@ use crate::steps::losses::letter_numbers;
 use crate::steps::losses::losses_at;
 use crate::steps::losses::term_numbers;
 use crate::steps::powers::exponential_sums;
-use crate::steps::terms::first_tail;
+use crate::steps::terms::tail_after;
 use exact::Encounter;
 use exact::Scaled;
 
@@ -59,21 +59,46 @@ pub fn unless(lost: bool) -> u32
     1
 }
 
+// Both sides at order 1, the losses of either and the upper r(256).
+struct OpenSides {
+    lower: Side,
+    upper: Side,
+    losses: Losses,
+    r256: Scaled,
+}
+
 // From the upper letters, which test 7 needed.
-pub fn opened(E: Encounter, above: TracedLetters) -> Session
+fn open_sides(E: Encounter, above: TracedLetters) -> OpenSides
     requires { ⌜ (Accepted E) × (way-letters above ≡ traced-letters true E) ⌝ }
-    ensures { λ r. ⌜ r ≡ state (no-object E) 1 ⌝ }
+    ensures { λ r. ⌜ (r .lower ≡ side false E 1) × (r .upper ≡ side true E 1) × (r .losses .term ≡ either-lost E 0) × (r .losses .operand ≡ not (lossless E 1)) × (r .r256 ≡ r256Of E) ⌝ }
 {
     let below = letters(false, E);
     let sums = exponential_sums(below.t.number, above.t.number);
     let one = open_side(false, E, below, sums.lower);
     let other = open_side(true, E, above, sums.upper);
+    let losses = either_side(one.losses, other.losses);
     let lower = one.side;
     let upper = other.side;
-    let lost = either_side(one.losses, other.losses);
-    let M = bound(upper.letters);
-    let d = first_tail(M, upper.terms.c);
     let r256 = sums.r256;
+    OpenSides {
+        lower,
+        upper,
+        losses,
+        r256,
+    }
+}
+
+pub fn opened(E: Encounter, above: TracedLetters) -> Session
+    requires { ⌜ (Accepted E) × (way-letters above ≡ traced-letters true E) ⌝ }
+    ensures { λ r. ⌜ r ≡ state (no-object E) 1 ⌝ }
+{
+    let sides = open_sides(E, above);
+    let lower = sides.lower;
+    let upper = sides.upper;
+    let r256 = sides.r256;
+    let lost = sides.losses;
+    let M = bound(upper.letters);
+    let d = tail_after(M, upper.terms.c, 0);
     let exact = unless(lost.term);
     let lossless = unless(lost.operand);
     Session {

@@ -1,14 +1,14 @@
 // What is lost on the way to a term (request #105 of document 02): one side's letters and terms, each with whether something was lost on its way.
 ghost use mathlib.Core.Path.{_≡_};
-ghost use mathlib.Core.Bool.{not, true, _||_};
+ghost use mathlib.Core.Bool.{_||_};
 ghost use Prim.Native.Nat.{suc, _^_, _<_};
-ghost use Rattle.exact.specs.Arithmetic.{traced};
-ghost use Rattle.exact.specs.Losses.{letter-numbers, term-numbers, operand-lost, either-lost, lossless};
+ghost use Rattle.exact.specs.Arithmetic.{rounded, traced};
+ghost use Rattle.exact.specs.Losses.{letter-numbers, term-numbers, operand-lost};
 ghost use Rattle.exact.specs.Numbers.{largest-order};
 ghost use Rattle.exact.specs.Private.Ranges.{InRange, Letters-in, Terms-in};
 ghost use Rattle.exact.specs.Private.Ways.{clean-letters, clean-terms};
 ghost use Rattle.exact.specs.Steps.{first, next-c, next};
-ghost use Rattle.encounter.specs.Private.Held.{Begun, step-letters, step-terms, held-letters, held-terms, way-letters, way-terms, Clean-losses};
+ghost use Rattle.encounter.specs.Private.Held.{step-letters, step-terms, held-letters, held-terms, way-letters, way-terms, Clean-losses};
 use crate::arithmetic::rounding::either;
 use crate::arithmetic::traced::clean;
 use crate::arithmetic::traced::halved;
@@ -16,7 +16,6 @@ use crate::arithmetic::traced::over;
 use crate::arithmetic::traced::product;
 use crate::arithmetic::traced::sum;
 use crate::state::Letters;
-use crate::state::Session;
 use crate::state::Terms;
 use exact::Traced;
 
@@ -178,25 +177,20 @@ pub fn either_side(below: Losses, above: Losses) -> Losses
     Losses { term, operand }
 }
 
-// A side's losses one index on, where nothing was lost before.
-fn side_losses(up: bool, l: Letters, s: Terms, n: u64) -> Losses
+// A side's terms one index on, without their losses, and what is lost there.
+pub struct SideStep {
+    pub terms: Terms,
+    pub losses: Losses,
+}
+
+// Where nothing was lost before.
+pub fn side_step(up: bool, l: Letters, s: Terms, n: u64) -> SideStep
     requires { ⌜ (n < largest-order) × (Letters-in (step-letters l)) × (Terms-in (2 ^ 22) (step-terms s)) ⌝ }
-    ensures { λ r. ⌜ Clean-losses up (step-letters l) (step-terms s) n r ⌝ }
+    ensures { λ r. ⌜ (r .terms ≡ held-terms (next (rounded up 32) (step-letters l) n (step-terms s))) × Clean-losses up (step-letters l) (step-terms s) n (r .losses) ⌝ }
 {
     let w = clean_letters(l);
     let next = next_terms(up, w, clean_terms(s), n);
-    losses_at(w, next)
-}
-
-// The losses of a session's next term, where nothing was lost before.
-pub fn next_losses(s: Session) -> Losses
-    requires { ⌜ (Begun s) × (lossless (s .encounter) (s .N) ≡ true) ⌝ }
-    ensures { λ r. ⌜ (r .term ≡ either-lost (s .encounter) (s .N)) × (r .operand ≡ not (lossless (s .encounter) (suc (s .N)))) ⌝ }
-{
-    let below = s.lower;
-    let above = s.upper;
-    let n = (s.N - 1) as u64;
-    let lower = side_losses(false, below.letters, below.terms, n);
-    let upper = side_losses(true, above.letters, above.terms, n);
-    either_side(lower, upper)
+    let terms = term_numbers(next);
+    let losses = losses_at(w, next);
+    SideStep { terms, losses }
 }

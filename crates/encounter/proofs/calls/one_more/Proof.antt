@@ -11,34 +11,43 @@ one-at-most : (b : Bool) {n : ℕ} → n ≡ cond b 0 1 → n ≤ 1
 one-at-most true e = omega (arith, e)
 one-at-most false e = omega (arith, e)
 
-next-losses-requires : tie.Need-next-losses-requires
-next-losses-requires c κs = let z = c .pre in (z .0, nothing-lost (c .args .s) (z .0) (z .2))
+exact-step-requires : tie.Need-exact-step-requires
+exact-step-requires c κs = let z = c .pre in (z .0, nothing-lost (c .args .s) (z .0) (z .2))
 
 unless-requires : tie.Need-unless-requires
 unless-requires c κs = search needs
 
 add-exact : tie.Need-add-exact
-add-exact c = let z = c .before .before .before in record { fits = omega (arith, exact-high (z .args .s) (z .pre .0), one-at-most (c .before .before .next-losses .result .term) (c .before .unless .ensures)) }
+add-exact c =
+    let l = c .before .before .before in
+    let z = l .before in
+    record { fits = omega (arith, exact-high (z .args .s) (z .pre .0), one-at-most (l .exact-step .result .losses .term) (c .before .unless .ensures)) }
 
 unless-requires-2 : tie.Need-unless-requires-2
 unless-requires-2 c κs = search needs
 
-later-requires : tie.Need-later-requires
-later-requires c κs = let z = c .before .before .before .before in (z .pre .0, omega (arith, z .pre .1))
+add-at-order : tie.Need-add-at-order
+add-at-order c = search needs
+
+at-order-requires : tie.Need-at-order-requires
+at-order-requires c κs = search needs
 
 returns : tie.Need-returns
 returns c =
-    let z = c .before .before .before .before .before in
-    let l = c .before .before .before .before in
-    one-more-is (z .args .s) (z .pre .0) (z .pre .2) (l .next-losses .ensures) (c .before .before .before .unless .ensures) (c .before .unless2 .ensures) (c .later .ensures)
+    let l = c .before .before .before .before .before .before in
+    let z = l .before in
+    let e = l .exact-step .ensures in
+    let b = z .pre .0 in
+    one-more-is (z .args .s) b (z .pre .2) (l .exact-step .result .progress) (e .0) (e .1, e .2) (c .before .before .before .before .unless .ensures) (c .before .before .unless2 .ensures) (c .at-order .ensures)
 
 pub one-more-spec : {M : Type 1} → statement M
 one-more-spec =
     tie.close
     (tie.spec
-    next-losses-requires
+    exact-step-requires
     unless-requires
     add-exact
     unless-requires-2
-    later-requires
+    add-at-order
+    at-order-requires
     returns)
