@@ -203,6 +203,10 @@ EXACT_TERMS = (
     # b is lost, and zx is 0: u, g, h, c(0) and p(0) are not, and X is 0.
     (LOST_B, 1, 1, 0),
     (LOST_B, 2, 1, 0),
+    # Of what c(1) is formed of X is lost, or Y, or h, and nothing else.
+    ((84, 1344, 672, 3, 84), 1, 1, 0),
+    ((33984, 362496, 11328, 33984, 1), 1, 1, 0),
+    ((756, 8064, 384, 0, 3), 1, 1, 0),
     # p(0) is lost, and nothing else that c(1) is formed of.
     ((257, 256, 256, 0, 0), 1, 1, 0),
     ((257, 256, 256, 0, 0), 2, 1, 0),
@@ -211,6 +215,9 @@ EXACT_TERMS = (
     (LOST_P, 2, 2, 0),
     (LOST_P, 3, 2, 0),
     (LOST_P, LARGEST_N, 2, 0),
+    # v(4) and y(4) are lost, and p(4) and c(4) are not.
+    ((12, 16, 8, 16, 8), 5, 5, 0),
+    ((12, 16, 8, 16, 8), 6, 5, 0),
     # Four and five exact terms. No encounter with more is known.
     ((3, 1, 1, 0, 0), 3, 3, 1),
     ((3, 1, 1, 0, 0), 4, 4, 1),

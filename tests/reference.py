@@ -122,16 +122,13 @@ def advance(r, side, N, count):
 
 # Request #105: "the count of leading terms, of the N summed, on whose way, on either side, nothing was lost."
 def exact_terms(lower, upper):
-    """How many of these terms of both sides have lost nothing on either side.
-
-    A term's way is a part of the next one's. So no term after a lost one is counted, and these are the leading ones.
-    """
-    return sum(not (c[2] or C[2]) for c, C in zip(lower, upper))
+    """How many leading ones of these terms of both sides have lost nothing on either side."""
+    return len(list(itertools.takewhile(lambda pair: not (pair[0][2] or pair[1][2]), zip(lower, upper))))
 
 
 def next_is_formed_of(side):
     """The numbers that the next term is formed of."""
-    return side.u, side.h, side.X, side.Y, side.c, side.p, side.v, side.y
+    return side.h, side.X, side.Y, side.c, side.p, side.v, side.y
 
 
 # The session and the calls.
@@ -238,7 +235,9 @@ class Session:
         if self.N + count > LARGEST_N:
             return Answer(22)
         lower, upper = advance(DOWN, self.lower, self.N, count), advance(UP, self.upper, self.N, count)
-        self.exact += exact_terms(lower, upper)
+        # "leading": none is counted after one that is not.
+        if self.exact == self.N:
+            self.exact += exact_terms(lower, upper)
         self._bound(count)
         return Answer(N=self.N)
 

@@ -186,6 +186,7 @@ def of_wrong_counts():
     cases = [case for case in edges.EXACT_TERMS if case[1] < 10]
     with mock.patch.multiple(reference, DOWN=forgets(rounded.DOWN), UP=forgets(rounded.UP)):
         sessions = [orders.at_order(inputs, N) for inputs, N, *_ in cases]
+    # Only `lossless` tells: no count differs.
     told("a zero factor hides a loss", [(session.exact, session.lossless) for session in sessions])
     sessions = [[orders.at_order(inputs, n) for n in range(1, N + 1)] for inputs, N, *_ in cases]
     # The terms whose p, v and y are exact too.

@@ -24,13 +24,14 @@ from checks import Checks
 
 STARS = options.ROOT / "crates/encounter/specs/Stars.antt"
 # The rows of each case, in document 01's order, and of the encounter beside them.
-ROWS = [2, 2, 2, 2, 14, 4, 3, 5, 2, 1, 3, 22]
+ROWS = [2, 2, 2, 2, 14, 4, 3, 3, 5, 2, 1, 3, 22]
 ENCOUNTERS = {
     "E₁": (10, 10, 10, 0, 0),
     "E₂": (8, 1, 1, 8, 0),
     "E₃": (8, 1, 1, 8, 1),
     "E₄": (8, 1, 1, -8, 0),
     "E₅": (6, 10, 5, 7, -4),
+    "E₆": (131071, 131072, 131071, 0, 0),
 }
 # What a right side may have besides numbers.
 LITERALS = {"scaled", "negsuc", "pos", "over", "whole", "nought", "a-half", "an-eighth", "^", "+", "(", ")"}

@@ -353,6 +353,8 @@ def of_printed_examples():
     counts = [session.exact for session in map(orders.begun, DOCUMENTS.values()) if session]
     words = f"of the {len(counts)} of document 000, Table 3, that are not refused, {counts.count(0)} have no exact term"
     checks.check(words in text, "examples", f"{COUNTED}: {words}")
+    words = f"Of the {len(counts)} encounters of document 000, Table 3, that are not refused, {counts.count(0)} have 0."
+    checks.check(words in README, "README", words)
     text, lines = of_printed_lines("shift")
     script = (EXAMPLES / "shift.script").read_bytes()
     same("examples", "shift, the bytes", blocks(text)[0][0].split(), script[:29].hex(" ").split())

@@ -93,8 +93,8 @@ enum { JINTHUOL_CLEAR = 0, JINTHUOL_ALERT = 1, JINTHUOL_OPEN = 2 };
 /* The refusal's number, or 0; then the order N, both ends, the class, the object number, the time of closest approach and the count of exact terms. A refusal has
  * zero in every other field; an accepted begin or add has zero in all but N. So the fields after N mean something only in the answer of a read whose refusal is 0.
  * There the object number and the time are those of jinthuol_begin_conjunction, and both 0 where the encounter was begun by jinthuol_begin. exact_terms is how many
- * of the first terms, from 0 to N, are exact: on the way to them nothing was rounded off, on either side. It tells where rounding starts, not how much is lost by
- * it: that is in the ends, which hold at every count, also at 0. */
+ * of the first terms are exact, at least 0 and at most N: on the way to them nothing was rounded off, on either side. It tells where rounding starts, not how much
+ * is lost by it: that is in the ends, which hold at every count, also at 0. */
 typedef struct {
     uint32_t refusal;
     uint32_t N;

@@ -197,8 +197,8 @@ class Answer(Struct):
 
     Only a read that is not refused has more than the first two: both begins, add and every refusal have zero there. The
     class is 0 for clear, 1 for alert, 2 for open. The object number and the time are those of begin_conjunction, and
-    both 0 after begin. exact_terms is how many of the first terms, from 0 to N, are exact: on the way to them nothing
-    was rounded off, on either side. It tells where rounding starts; how much is lost by it is in the ends.
+    both 0 after begin. exact_terms is how many of the first terms are exact, at least 0 and at most N: on the way to
+    them nothing was rounded off, on either side. It tells where rounding starts; how much is lost is in the ends.
     """
 
     _fields_ = [

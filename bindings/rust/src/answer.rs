@@ -62,8 +62,8 @@ pub struct Answer {
     pub object: u32,
     /// Its time of closest approach, in minutes from the epoch that the site chooses; 0 where `object` is 0.
     pub time: u32,
-    /// How many of the first terms, from 0 to `N`, are exact: on the way to them nothing was rounded off, on either
-    /// side. It tells where rounding starts; how much is lost by it is in the ends.
+    /// How many of the first terms are exact, at least 0 and at most `N`: on the way to them nothing was rounded off,
+    /// on either side. It tells where rounding starts; how much is lost by it is in the ends.
     pub exact_terms: u32,
 }
 

@@ -6,13 +6,14 @@ use lib.IntN.{pos, _-ℤ_}
 use Rattle.exact.specs.declared.Encounter.{Encounter}
 use Rattle.exact.specs.declared.Conjunction.{Conjunction}
 use Rattle.exact.specs.declared.Scaled.{Scaled}
+use Rattle.exact.specs.declared.Traced.{Traced}
 use Rattle.exact.specs.Fraction.{Frac, _≼_, _≈_, _⊗_, _÷_, whole, sum}
 use Rattle.exact.specs.Numbers.{exponential-cut}
 use Rattle.exact.specs.Private.Round.{round}
 use Rattle.exact.specs.Scaled.{IsRound, value, half, double, lost}
 use Rattle.exact.specs.Losses.{traced-letters, traced-terms, letter-numbers, term-numbers, term-lost, either-lost}
 use Rattle.exact.specs.Series.{mirrored, u, g, h, X, Y, t, F, a₀, a, c, series, exponential, quotient}
-use Rattle.exact.specs.Arithmetic.{unrounded}
+use Rattle.exact.specs.Arithmetic.{unrounded, traced}
 use Rattle.exact.specs.Steps.{letters, terms, powers, bound, side-letters, side-terms, alert, clear}
 use Rattle.exact.specs.declared.Decimal.{Decimal}
 use Rattle.exact.specs.Decimals.{Printed, Found, Near}
@@ -77,6 +78,14 @@ pub record CountedTerms (E : Encounter) (N k : ℕ) : Type 0 where
   -- on the way of each other term something was lost
   pub others-lost : (n : ℕ) → k ≤ n → n < N → either-lost E n ≡ true
 
+-- request #105, on one side: "everything built on rounding must pass that on", so what was lost on the way to an operand was lost on the result's, whatever the other
+-- operand: "also one that a zero factor hides"
+pub record PassesOn (up : Bool) : Type 0 where
+  pub sum : (x y : Traced) → traced up 32 .sum x y .lost ≡ false → (x .lost ≡ false) × (y .lost ≡ false)
+  pub product : (x y : Traced) → traced up 32 .product x y .lost ≡ false → (x .lost ≡ false) × (y .lost ≡ false)
+  pub quotient : (x : Traced) (k : ℕ) → traced up 32 .quotient x k .lost ≡ false → x .lost ≡ false
+  pub half : (x : Traced) → traced up 32 .half x .lost ≡ false → x .lost ≡ false
+
 pub record Claims : Type 0 where
   -- "D(q) is the greatest scaled number not above [..] q. U(q) is the least one not below it": round computes them, and there is no other
   pub rounding : (up : Bool) (bits : ℕ) (q : Frac) → 0 < bits → IsRound up bits q (round up bits q) × ((x : Scaled) → IsRound up bits q x → x ≡ round up bits q)
@@ -112,9 +121,10 @@ pub record Claims : Type 0 where
   pub no-object-no-time : {s : Session} → Readable s → call reads s .answer .object ≡ 0 → call reads s .answer .time ≡ 0
   -- request #105: a rounding says that it lost nothing just where its value is the fraction's
   pub losses : (up : Bool) (bits : ℕ) (q : Frac) → (lost up bits q ≡ false → value (round up bits q) ≈ q) × (value (round up bits q) ≈ q → lost up bits q ≡ false)
+  pub passed-on : (up : Bool) → PassesOn up
   -- the numbers with losses beside them are the side's
   pub traced-numbers : (up : Bool) (E : Encounter) → (letter-numbers (traced-letters up E) ≡ side-letters up E) × ((n : ℕ) → term-numbers (traced-terms up E n) ≡ side-terms up E n)
-  -- what is lost on the way of a term on one side is lost on the other
+  -- something is lost on a term's way on one side just where it is on the other
   pub same-ways : (E : Encounter) (n : ℕ) → term-lost false E n ≡ term-lost true E n
   -- the count of every accepted read
-  pub counted : {s : Session} → Readable s → CountedTerms (s .encounter) (s .N) (call reads s .answer .exact)
+  pub exact-counts : {s : Session} → Readable s → CountedTerms (s .encounter) (s .N) (call reads s .answer .exact)

@@ -1,5 +1,5 @@
 -- Document 01, 'Encounters on each edge': the cases marked ★, one table, and beside them the exact letters of one encounter with unequal sigmas and two misses,
--- which no ★ encounter has, with some of its rounded numbers and its ends at N = 3. `All stars` is one statement (claim `star-cases`).
+-- which no ★ encounter has, with some of its rounded numbers and its ends at N = 3; and the counts of request #105. `All stars` is one statement (claim `star-cases`).
 use mathlib.Core.Path.{_≡_}
 use mathlib.Core.Bool.{true, false}
 use mathlib.Core.List.{List, [], _∷_}
@@ -32,7 +32,7 @@ abbrev pub All : List Star → Type 0
 All [] = Unit {0}
 All (s ∷ l) = Holds s × All l
 
--- (10, 10, 10, 0, 0), (8, 1, 1, 8, 0), (8, 1, 1, 8, 1), (8, 1, 1, −8, 0), and (6, 10, 5, 7, −4)
+-- (10, 10, 10, 0, 0), (8, 1, 1, 8, 0), (8, 1, 1, 8, 1), (8, 1, 1, −8, 0), (6, 10, 5, 7, −4), and (131071, 131072, 131071, 0, 0)
 abbrev pub E₁ : Encounter
 E₁ = record { R = 10; sx = 10; sy = 10; xm = pos 0; ym = pos 0 }
 
@@ -47,6 +47,9 @@ E₄ = record { R = 8; sx = 1; sy = 1; xm = negsuc 7; ym = pos 0 }
 
 abbrev pub E₅ : Encounter
 E₅ = record { R = 6; sx = 10; sy = 5; xm = pos 7; ym = negsuc 3 }
+
+abbrev pub E₆ : Encounter
+E₆ = record { R = 131071; sx = 131072; sy = 131071; xm = pos 0; ym = pos 0 }
 
 -- 1/2 and 1/8
 abbrev pub a-half : Scaled
@@ -93,6 +96,10 @@ stars =
     ∷ number-is (call reads (state (no-object E₁) 1) .answer .exact) 1
     ∷ number-is (call reads (state (no-object E₁) 2) .answer .exact) 2
     ∷ number-is (call reads (state (no-object E₁) 3) .answer .exact) 2
+    -- request #105, (131071, 131072, 131071, 0, 0) at N = 1, "also one that a zero factor hides": b is rounded and zx is 0. Of what c(1) is formed of only X is lost
+    ∷ scaled-is (side-letters false E₆ .X) nought
+    ∷ scaled-is (side-letters true E₆ .X) nought
+    ∷ number-is (state (no-object E₆) 1 .lossless) 0
     -- ★ (8, 1, 1, 8, 0): t = 64, accepted; M = 1,056.
     ∷ fraction-is (t E₂) (whole 64)
     ∷ fraction-is (value (side-letters false E₂ .t)) (whole 64)

@@ -26,7 +26,6 @@ use crate::calls::ends::lower_end;
 use crate::calls::ends::may_read;
 use crate::calls::ends::upper_end;
 use crate::calls::opening::opened;
-use crate::calls::opening::unless;
 use crate::calls::tests::passes_test_7;
 use crate::calls::tests::test_inputs;
 use crate::calls::tests::test_object;
@@ -37,6 +36,7 @@ use crate::state::Session;
 use crate::state::Side;
 use crate::state::Terms;
 use crate::steps::letters::letters;
+use crate::steps::losses::none_lost;
 use crate::steps::progress::Progress;
 use crate::steps::progress::advance;
 use crate::steps::progress::exact_step;
@@ -173,8 +173,8 @@ fn one_more(s: Session) -> Session
 {
     let next = exact_step(s);
     let lost = next.losses;
-    let exact = s.exact + unless(lost.term);
-    let lossless = unless(lost.operand);
+    let exact = s.exact + none_lost(lost.term);
+    let lossless = none_lost(lost.operand);
     let mut session = at_order(s, s.N + 1, next.progress);
     session.exact = exact;
     session.lossless = lossless;

@@ -31,8 +31,8 @@ pub struct Side {
 }
 
 // The five inputs, the object number and the time of closest approach (both 0 after a begin without them), the order N (0 where no encounter was begun), both
-// sides, the upper r(256), M, and the upper d(N); then how many of the N terms are exact, and 1 where nothing was lost on the way to what the next term is formed
-// of, else 0.
+// sides, the upper r(256), M, and the upper d(N); then the count of exact terms, the leading ones (request #105), and 1 where nothing was lost on the way to
+// what the next term is formed of, else 0.
 #[repr(C)]
 pub struct Session {
     pub encounter: Encounter,
@@ -54,7 +54,7 @@ pub enum Class {
     Open,
 }
 
-// The refusal's number, or 0; then the order, both ends and the class, and of an accepted read the object number, the time and how many terms are exact.
+// The refusal's number, or 0; then the order, both ends and the class, and of an accepted read the object number, the time and how many of the first terms are exact.
 pub struct Answer {
     pub refusal: u32,
     pub N: u32,

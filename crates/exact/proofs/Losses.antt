@@ -15,7 +15,7 @@ use Rattle.exact.specs.declared.Traced.{Traced}
 use Rattle.exact.specs.Fraction.{Frac, _≈_, _⊕_, _⊗_, _÷_}
 use Rattle.exact.specs.Scaled.{value, lost, half}
 use Rattle.exact.specs.Private.Round.{round}
-use Rattle.exact.specs.Private.Ways.{clean, clean-letters, clean-terms}
+use Rattle.exact.specs.Private.Clean.{clean, clean-letters, clean-terms}
 use Rattle.exact.specs.Arithmetic.{unrounded, rounded, rounding, traced}
 use Rattle.exact.specs.Series.{a₀, c}
 use Rattle.exact.specs.Steps.{LettersOf, TermsOf, start, first, next-c, next-p, next-v, next-y, next, terms, side-letters, side-start, side-terms}
@@ -65,11 +65,11 @@ module _ (up : Bool) (E : Encounter) where
 -- ---- where nothing was lost on a result's way, nothing was lost on its operands'
 
 -- a and b say what was lost on the operands' ways, own what the result's own rounding lost
-two-whole : (a b own : Bool) → (a || b || own) ≡ false → (a ≡ false) × (b ≡ false)
-two-whole a b own h = neither a b (neither (a || b) own h .0)
+two-clean : (a b own : Bool) → (a || b || own) ≡ false → (a ≡ false) × (b ≡ false)
+two-clean a b own h = neither a b (neither (a || b) own h .0)
 
 -- nothing was lost on the way of any number that the next term is formed of
-record Whole (l : LettersOf Traced) (s : TermsOf Traced) : Type 0 where
+record Clean (l : LettersOf Traced) (s : TermsOf Traced) : Type 0 where
   h : l .h .lost ≡ false
   X : l .X .lost ≡ false
   Y : l .Y .lost ≡ false
@@ -78,9 +78,9 @@ record Whole (l : LettersOf Traced) (s : TermsOf Traced) : Type 0 where
   y : s .y .lost ≡ false
   c : s .c .lost ≡ false
 
-to-whole : (l : LettersOf Traced) (s : TermsOf Traced) → operand-lost l s ≡ false → Whole l s
+to-clean : (l : LettersOf Traced) (s : TermsOf Traced) → operand-lost l s ≡ false → Clean l s
 unfolding operand-lost
-to-whole l s e =
+to-clean l s e =
     let (e₆, c) = neither _ (s .c .lost) e in
     let (e₅, y) = neither _ (s .y .lost) e₆ in
     let (e₄, v) = neither _ (s .v .lost) e₅ in
@@ -89,45 +89,45 @@ to-whole l s e =
     let (h, X) = neither (l .h .lost) (l .X .lost) e₂ in
     record { h = h; X = X; Y = Y; p = p; v = v; y = y; c = c }
 
-of-whole : {l : LettersOf Traced} {s : TermsOf Traced} → Whole l s → operand-lost l s ≡ false
+of-clean : {l : LettersOf Traced} {s : TermsOf Traced} → Clean l s → operand-lost l s ≡ false
 unfolding operand-lost
-of-whole w = rw (w .h, w .X, w .Y, w .p, w .v, w .y, w .c)
+of-clean w = rw (w .h, w .X, w .Y, w .p, w .v, w .y, w .c)
 
 module _ (up : Bool) where
   -- on the way of a result with no loss nothing was lost on its operands' ways, also where a factor is zero
-  product-whole : (x y : Traced) → traced up 32 .product x y .lost ≡ false → (x .lost ≡ false) × (y .lost ≡ false)
+  pub product-clean : (x y : Traced) → traced up 32 .product x y .lost ≡ false → (x .lost ≡ false) × (y .lost ≡ false)
   unfolding traced rounding
-  product-whole x y e = two-whole (x .lost) (y .lost) _ e
+  product-clean x y e = two-clean (x .lost) (y .lost) _ e
 
-  sum-whole : (x y : Traced) → traced up 32 .sum x y .lost ≡ false → (x .lost ≡ false) × (y .lost ≡ false)
+  pub sum-clean : (x y : Traced) → traced up 32 .sum x y .lost ≡ false → (x .lost ≡ false) × (y .lost ≡ false)
   unfolding traced rounding
-  sum-whole x y e = two-whole (x .lost) (y .lost) _ e
+  sum-clean x y e = two-clean (x .lost) (y .lost) _ e
 
-  quotient-whole : (x : Traced) (k : ℕ) → traced up 32 .quotient x k .lost ≡ false → x .lost ≡ false
+  pub quotient-clean : (x : Traced) (k : ℕ) → traced up 32 .quotient x k .lost ≡ false → x .lost ≡ false
   unfolding traced rounding
-  quotient-whole x k e = neither (x .lost) _ e .0
+  quotient-clean x k e = neither (x .lost) _ e .0
 
-  half-whole : (x : Traced) → traced up 32 .half x .lost ≡ false → x .lost ≡ false
+  pub half-clean : (x : Traced) → traced up 32 .half x .lost ≡ false → x .lost ≡ false
   unfolding traced
-  half-whole x e = e
+  half-clean x e = e
 
   -- c(n+1)'s way has the ways of all that it is formed of
-  c-whole : (l : LettersOf Traced) (n : ℕ) (s : TermsOf Traced) → next-c (traced up 32) l n s .lost ≡ false → Whole l s
+  c-clean : (l : LettersOf Traced) (n : ℕ) (s : TermsOf Traced) → next-c (traced up 32) l n s .lost ≡ false → Clean l s
   unfolding next-c
-  c-whole l n s e =
-      let (r, Yc) = sum-whole _ _ (quotient-whole _ _ e) in
-      let (r′, Xy) = sum-whole _ _ r in
-      let (p, hv) = sum-whole _ _ r′ in
-      let (h, v) = product-whole _ _ (half-whole _ hv) in
-      let (X, y) = product-whole _ _ Xy in
-      let (Y, c) = product-whole _ _ Yc in
+  c-clean l n s e =
+      let (r, Yc) = sum-clean _ _ (quotient-clean _ _ e) in
+      let (r′, Xy) = sum-clean _ _ r in
+      let (p, hv) = sum-clean _ _ r′ in
+      let (h, v) = product-clean _ _ (half-clean _ hv) in
+      let (X, y) = product-clean _ _ Xy in
+      let (Y, c) = product-clean _ _ Yc in
       record { h = h; X = X; Y = Y; p = p; v = v; y = y; c = c }
 
   -- p(n) is a product with u
-  u-whole : (E : Encounter) (n : ℕ) → traced-terms up E n .p .lost ≡ false → traced-letters up E .u .lost ≡ false
+  u-clean : (E : Encounter) (n : ℕ) → traced-terms up E n .p .lost ≡ false → traced-letters up E .u .lost ≡ false
   unfolding traced-terms terms first next next-p
-  u-whole E zero h = product-whole _ _ h .0
-  u-whole E (suc n) h = product-whole _ _ h .0
+  u-clean E zero h = product-clean _ _ h .0
+  u-clean E (suc n) h = product-clean _ _ h .0
 
 -- ---- where nothing was lost before, clean numbers give the same losses
 
@@ -163,10 +163,10 @@ module _ (up : Bool) (E : Encounter) (n : ℕ) where
     all-clean : operands-of (clean-letters (side-letters up E)) (clean-terms (side-terms up E n)) ≡ operands-of (traced-letters up E) (traced-terms up E n)
     unfolding operands-of
     all-clean =
-        let w = to-whole _ _ e in
+        let w = to-clean _ _ e in
         let l = letters-same up E in
         let s = terms-same up E n in
-        let u = clean-of (u-whole up E n (w .p)) (l .u) in
+        let u = clean-of (u-clean up E n (w .p)) (l .u) in
         let h = clean-of (w .h) (l .h) in
         let X = clean-of (w .X) (l .X) in
         let Y = clean-of (w .Y) (l .Y) in
@@ -204,12 +204,12 @@ module _ (E : Encounter) where
   -- what c(n+1) is formed of has c(n), on each side
   its-term : (up : Bool) (n : ℕ) → operand-lost (traced-letters up E) (traced-terms up E n) ≡ false → term-lost up E n ≡ false
   unfolding term-lost
-  its-term up n e = to-whole _ _ e .c
+  its-term up n e = to-clean _ _ e .c
 
   -- and c(n+1)'s way has theirs
   its-operands : (up : Bool) (n : ℕ) → term-lost up E (suc n) ≡ false → operand-lost (traced-letters up E) (traced-terms up E n) ≡ false
   unfolding term-lost traced-terms terms next
-  its-operands up n e = of-whole (c-whole up _ n _ e)
+  its-operands up n e = of-clean (c-clean up _ n _ e)
 
   -- nothing on either side: nothing on each
   each-side : (n : ℕ) → either-lost E n ≡ false → (up : Bool) → term-lost up E n ≡ false

@@ -1,4 +1,5 @@
--- Request #105 of document 02, 'How many terms were exact'.
+-- Request #105 of document 02, 'How many terms were exact'. Only the ways of terms are asked for: t, the sums, M, d, the exponential, the ends and the decimals are on
+-- no term's way.
 use mathlib.Core.Bool.{Bool, true, false, not, _||_}
 use Prim.Native.Nat.{ℕ, pred}
 use Rattle.exact.specs.declared.Encounter.{Encounter}
@@ -40,7 +41,7 @@ module _ (E : Encounter) where
   unfoldable pub exact-terms : ℕ → ℕ
   exact-terms N = least either-lost N
 
-  -- whether nothing was lost, on either side, on the way to what c(N) is formed of, for N ≥ 1: where it was, no later term is exact
+  -- whether nothing was lost, on either side, on the way to what c(N) is formed of, for N ≥ 1. Where something was, it is on the way of every later term too
   unfoldable pub lossless : ℕ → Bool
   lossless N =
       not (operand-lost (traced-letters false E) (traced-terms false E (pred N)) || operand-lost (traced-letters true E) (traced-terms true E (pred N)))

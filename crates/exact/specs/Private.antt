@@ -1,4 +1,4 @@
 -- What only private functions and proofs need. A reader of the claims needs none of it.
 pub mod Round
 pub mod Ranges
-pub mod Ways
+pub mod Clean

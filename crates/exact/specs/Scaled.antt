@@ -52,7 +52,7 @@ D q = round false 32 q
 abbrev pub U : Frac → Scaled
 U q = round true 32 q
 
--- whether the rounding of q loses anything: its value is not q
+-- request #105: whether the rounding of q loses anything, so that its value is not q
 unfoldable pub lost : Bool → ℕ → Frac → Bool
 lost up bits q = not (eqb (value (round up bits q) .num * q .den) (q .num * value (round up bits q) .den))
 

@@ -83,7 +83,7 @@ module _ {S : Type 0} (A : Arithmetic S) where
     terms c₀ zero = first c₀
     terms c₀ (suc n) = next n (terms c₀ n)
 
-    -- M, on the upper side, where D is U: "M = U(U(U(u + h/2) + X) + Y)"
+    -- M, by the upper side's arithmetic: "M = U(U(U(u + h/2) + X) + Y)"
     unfoldable pub bound : S
     bound = A .sum (A .sum (A .sum (l .u) (A .half (l .h))) (l .X)) (l .Y)
 

@@ -1,4 +1,4 @@
-// The scaled number of document 01, with the constants and the constructor that belong to it, one with its losses, the five inputs of an encounter, a conjunction, a decimal, and the paper's limits.
+// The scaled number of document 01, with the constants and the constructor that belong to it, a scaled number with whether something was lost on its way, the five inputs of an encounter, a conjunction, a decimal, and the paper's limits.
 // All else in this crate is definitions (specs/) and theorems (proofs/).
 ghost use mathlib.Core.Path.{_≡_};
 ghost use mathlib.Core.Bool.{false};

@@ -2,7 +2,7 @@
 use Rattle.exact.specs.declared.Encounter.{Encounter}
 use Rattle.exact.specs.Series.{series, exponential}
 use Rattle.exact.proofs.Rounding.{round-is, is-round, lost-not, lost-none}
-use Rattle.exact.proofs.Losses.{letters-number, terms-number, same-ways}
+use Rattle.exact.proofs.Losses.{letters-number, terms-number, sum-clean, product-clean, quotient-clean, half-clean, same-ways}
 use Rattle.exact.proofs.Convolution.{a-suc}
 use Rattle.exact.proofs.Accepted.{g-is}
 use Rattle.exact.proofs.Order.{half-exact, double-exact}
@@ -12,7 +12,7 @@ use Rattle.encounter.proofs.calls.Stars.{stars-hold, mirror-begin, mirr
 use Rattle.encounter.proofs.calls.AcceptedReads.{no-object-no-time}
 use Rattle.encounter.proofs.calls.Classes.{classes, no-reversal, never-falls, alert-remains}
 use Rattle.encounter.proofs.calls.PrintedEnds.{decimals}
-use Rattle.encounter.proofs.calls.ExactCount.{counted}
+use Rattle.encounter.proofs.calls.ExactCount.{exact-counts}
 
 unrounded : (E : Encounter) → Unrounded E
 unfolding series exponential
@@ -44,7 +44,8 @@ claims = record {
   decimals = decimals;
   no-object-no-time = no-object-no-time;
   losses = λ up bits q. (lost-not up bits q, lost-none up bits q);
+  passed-on = λ up. record { sum = sum-clean up; product = product-clean up; quotient = quotient-clean up; half = half-clean up };
   traced-numbers = λ up E. (letters-number up E, terms-number up E);
   same-ways = same-ways;
-  counted = counted;
+  exact-counts = exact-counts;
 }

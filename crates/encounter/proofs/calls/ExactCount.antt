@@ -24,6 +24,6 @@ module _ (E : Encounter) where
   counted-terms : (N : ℕ) → CountedTerms E N (exact-terms E N)
   counted-terms N = record { at-most = exact-le E N; nothing-lost = counted-are E N; exact = exact-term-is E N; others-lost = others-lost N }
 
-pub counted : {s : Session} → Readable s → CountedTerms (s .encounter) (s .N) (call reads s .answer .exact)
+pub exact-counts : {s : Session} → Readable s → CountedTerms (s .encounter) (s .N) (call reads s .answer .exact)
 unfolding bracket
-counted {s} r = rw (read-of r .is) (counted-terms (s .encounter) (s .N))
+exact-counts {s} r = rw (read-of r .is) (counted-terms (s .encounter) (s .N))

@@ -12,7 +12,7 @@ use Rattle.exact.specs.Arithmetic.{rounded, rounding, traced}
 use Rattle.exact.specs.Losses.{letter-numbers, term-numbers, traced-letters, traced-terms, term-lost, operand-lost, either-lost, lossless}
 use Rattle.exact.specs.Numbers.{largest-order}
 use Rattle.exact.specs.Private.Ranges.{InRange, Letters-in, Terms-in}
-use Rattle.exact.specs.Private.Ways.{clean-letters, clean-terms}
+use Rattle.exact.specs.Private.Clean.{clean-letters, clean-terms}
 use Rattle.exact.specs.Steps.{LettersOf, TermsOf, next-c, next-p, next-v, next-y, next, terms, next-d, side-letters, side-terms, d}
 use Rattle.exact.proofs.Accepted.{facts, neither}
 use Rattle.exact.proofs.Exponents.{letters-in}

@@ -1,4 +1,4 @@
--- The session's structs and the steps' records into each other, what an add changes, both t of an encounter, and what the premise of a call comes to. Private
+-- The session's structs and the steps' records into each other, what the terms of an add change, both t of an encounter, and what the premise of a call comes to. Private
 -- functions ask for these.
 use mathlib.Core.Path.{_≡_}
 use mathlib.Core.Bool.{Bool, true, false}
@@ -10,7 +10,7 @@ use Rattle.exact.specs.declared.Traced.{Traced}
 use Rattle.exact.specs.Arithmetic.{traced}
 use Rattle.exact.specs.Steps.{LettersOf, TermsOf, next, side-letters, side-terms, d}
 use Rattle.exact.specs.Losses.{operand-lost}
-use Rattle.exact.specs.Private.Ways.{clean-letters, clean-terms}
+use Rattle.exact.specs.Private.Clean.{clean-letters, clean-terms}
 use Rattle.exact.specs.Refusals.{Accepted}
 use Rattle.encounter.specs.declared.state.Letters.{Letters}
 use Rattle.encounter.specs.declared.state.Terms.{Terms}
@@ -63,7 +63,7 @@ with-losses s exact lossless = record {
   lossless = lossless;
 }
 
--- a session at another order, with what an add changes
+-- a session at another order, with its terms and d; the count and the losses stay
 abbrev pub at-order : Session → ℕ → Progress → Session
 at-order s N p = record {
   encounter = s .encounter;
@@ -79,7 +79,7 @@ at-order s N p = record {
   lossless = s .lossless;
 }
 
--- what the terms of an add change, at order n + 1
+-- both sides' terms and d at order n + 1
 unfoldable pub progress : Encounter → ℕ → Progress
 progress E n = record { lower = held-terms (side-terms false E n); upper = held-terms (side-terms true E n); d = d E (suc n) }
 

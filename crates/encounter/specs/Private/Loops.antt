@@ -30,7 +30,7 @@ narrow x = scaled (x .m) (x .e)
 unfoldable pub whole-part : Bool → ℕ → Bool → ℕ
 whole-part up h s = h + cond (up && s) 1 0
 
--- w is the whole part of h and a rest, which s says is left, and says so too
+-- w is the whole part of h and a rest, in the direction, and whether a rest is left, which s says
 abbrev pub IsWhole : Bool → ℕ → Bool → Whole → Type 0
 IsWhole up h s w = (w .part ≡ whole-part up h s) × (w .rest ≡ s)
 

@@ -93,7 +93,7 @@ pub fn long_division(up: bool, n: u64, t: u64, k: u64) -> Whole
     Whole { part, rest: true }
 }
 
-// The last bit of a, of 32 or 33 bits, where c is its 33rd.
+// Whether the last bit of a, which has 32 or 33 bits, is 1 and dropped: c is the 33rd.
 fn dropped(a: u64, c: u64) -> bool
     requires { ⌜ (a < 2 ^ 33) × (c ≤ 1) ⌝ }
     ensures { λ r. ⌜ r ≡ ltb 0 (c * a % 2) ⌝ }

@@ -27,7 +27,7 @@ pub struct Wide {
     pub e: i64,
 }
 
-// A result, and whether its rounding lost anything (request #105).
+// A rounded number, and whether its rounding lost anything (request #105).
 pub struct Rounded {
     pub number: Wide,
     pub lost: bool,

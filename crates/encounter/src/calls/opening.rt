@@ -1,6 +1,6 @@
 // The session of an accepted encounter at order 1, without object and time.
 ghost use mathlib.Core.Path.{_≡_};
-ghost use mathlib.Core.Bool.{true, false, cond, not};
+ghost use mathlib.Core.Bool.{true, false, not};
 ghost use Rattle.exact.specs.Private.Ranges.{Bounds};
 ghost use Rattle.exact.specs.Refusals.{Accepted};
 ghost use Rattle.exact.specs.Steps.{exponential-sum, r256 as r256Of};
@@ -18,6 +18,7 @@ use crate::steps::losses::either_side;
 use crate::steps::losses::first_terms;
 use crate::steps::losses::letter_numbers;
 use crate::steps::losses::losses_at;
+use crate::steps::losses::none_lost;
 use crate::steps::losses::term_numbers;
 use crate::steps::powers::exponential_sums;
 use crate::steps::terms::tail_after;
@@ -47,16 +48,6 @@ fn open_side(up: bool, E: Encounter, l: TracedLetters, exponential: Scaled) -> O
         },
         losses,
     }
-}
-
-// 0 where something was lost, else 1.
-pub fn unless(lost: bool) -> u32
-    ensures { λ r. ⌜ r ≡ cond lost 0 1 ⌝ }
-{
-    if lost {
-        return 0;
-    }
-    1
 }
 
 // Both sides at order 1, the losses of either and the upper r(256).
@@ -99,8 +90,8 @@ pub fn opened(E: Encounter, above: TracedLetters) -> Session
     let lost = sides.losses;
     let M = bound(upper.letters);
     let d = tail_after(M, upper.terms.c, 0);
-    let exact = unless(lost.term);
-    let lossless = unless(lost.operand);
+    let exact = none_lost(lost.term);
+    let lossless = none_lost(lost.operand);
     Session {
         encounter: E,
         object: 0,

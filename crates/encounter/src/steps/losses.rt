@@ -1,12 +1,12 @@
 // What is lost on the way to a term (request #105 of document 02): one side's letters and terms, each with whether something was lost on its way.
 ghost use mathlib.Core.Path.{_≡_};
-ghost use mathlib.Core.Bool.{_||_};
+ghost use mathlib.Core.Bool.{_||_, cond};
 ghost use Prim.Native.Nat.{suc, _^_, _<_};
 ghost use Rattle.exact.specs.Arithmetic.{rounded, traced};
 ghost use Rattle.exact.specs.Losses.{letter-numbers, term-numbers, operand-lost};
 ghost use Rattle.exact.specs.Numbers.{largest-order};
 ghost use Rattle.exact.specs.Private.Ranges.{InRange, Letters-in, Terms-in};
-ghost use Rattle.exact.specs.Private.Ways.{clean-letters, clean-terms};
+ghost use Rattle.exact.specs.Private.Clean.{clean-letters, clean-terms};
 ghost use Rattle.exact.specs.Steps.{first, next-c, next};
 ghost use Rattle.encounter.specs.Private.Held.{step-letters, step-terms, held-letters, held-terms, way-letters, way-terms, Clean-losses};
 use crate::arithmetic::rounding::either;
@@ -100,6 +100,8 @@ pub fn first_terms(up: bool, l: TracedLetters, start: Traced) -> TracedTerms
     }
 }
 
+// The steps of terms.rt, of one side and with losses: only the terms before the first loss go this way.
+
 // c(n + 1).
 fn next_term(up: bool, l: TracedLetters, s: TracedTerms, n: u64) -> Traced
     requires { ⌜ (n < largest-order) × (Letters-in (letter-numbers (way-letters l))) × (Terms-in (2 ^ 22) (term-numbers (way-terms s))) ⌝ }
@@ -175,6 +177,16 @@ pub fn either_side(below: Losses, above: Losses) -> Losses
     let term = either(below.term, above.term);
     let operand = either(below.operand, above.operand);
     Losses { term, operand }
+}
+
+// 1 where nothing was lost, else 0.
+pub fn none_lost(lost: bool) -> u32
+    ensures { λ r. ⌜ r ≡ cond lost 0 1 ⌝ }
+{
+    if lost {
+        return 0;
+    }
+    1
 }
 
 // A side's terms one index on, without their losses, and what is lost there.

@@ -24,7 +24,7 @@ use crate::steps::terms::next_terms;
 use crate::steps::terms::tail_after;
 use exact::Scaled;
 
-// What an add changes.
+// What the terms of an add change.
 pub struct Progress {
     pub lower: Terms,
     pub upper: Terms,

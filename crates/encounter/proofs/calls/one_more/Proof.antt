@@ -14,17 +14,17 @@ one-at-most false e = omega (arith, e)
 exact-step-requires : tie.Need-exact-step-requires
 exact-step-requires c κs = let z = c .pre in (z .0, nothing-lost (c .args .s) (z .0) (z .2))
 
-unless-requires : tie.Need-unless-requires
-unless-requires c κs = search needs
+none-lost-requires : tie.Need-none-lost-requires
+none-lost-requires c κs = search needs
 
 add-exact : tie.Need-add-exact
 add-exact c =
     let l = c .before .before .before in
     let z = l .before in
-    record { fits = omega (arith, exact-high (z .args .s) (z .pre .0), one-at-most (l .exact-step .result .losses .term) (c .before .unless .ensures)) }
+    record { fits = omega (arith, exact-high (z .args .s) (z .pre .0), one-at-most (l .exact-step .result .losses .term) (c .before .none-lost .ensures)) }
 
-unless-requires-2 : tie.Need-unless-requires-2
-unless-requires-2 c κs = search needs
+none-lost-requires-2 : tie.Need-none-lost-requires-2
+none-lost-requires-2 c κs = search needs
 
 add-at-order : tie.Need-add-at-order
 add-at-order c = search needs
@@ -38,16 +38,16 @@ returns c =
     let z = l .before in
     let e = l .exact-step .ensures in
     let b = z .pre .0 in
-    one-more-is (z .args .s) b (z .pre .2) (l .exact-step .result .progress) (e .0) (e .1, e .2) (c .before .before .before .before .unless .ensures) (c .before .before .unless2 .ensures) (c .at-order .ensures)
+    one-more-is (z .args .s) b (z .pre .2) (l .exact-step .result .progress) (e .0) (e .1, e .2) (c .before .before .before .before .none-lost .ensures) (c .before .before .none-lost2 .ensures) (c .at-order .ensures)
 
 pub one-more-spec : {M : Type 1} → statement M
 one-more-spec =
     tie.close
     (tie.spec
     exact-step-requires
-    unless-requires
+    none-lost-requires
     add-exact
-    unless-requires-2
+    none-lost-requires-2
     add-at-order
     at-order-requires
     returns)

@@ -23,17 +23,17 @@ tail-after-requires c κs =
     let h = o .open-sides .ensures .1 in
     (lit≤ tt, bound-fine (z .args .E) h f (c .bound .ensures), widen (lit≤ tt) (side-start-fine (z .args .E) h f))
 
-unless-requires : tie.Need-unless-requires
-unless-requires c κs = search needs
+none-lost-requires : tie.Need-none-lost-requires
+none-lost-requires c κs = search needs
 
-unless-requires-2 : tie.Need-unless-requires-2
-unless-requires-2 c κs = search needs
+none-lost-requires-2 : tie.Need-none-lost-requires-2
+none-lost-requires-2 c κs = search needs
 
 returns : tie.Need-returns
 returns c =
     let t = c .before .before in
     let o = t .before .before .before .before .before .before in
-    opened-is (o .before .args .E) (o .open-sides .result) (o .open-sides .ensures) (t .before .bound .ensures) (t .tail-after .ensures) (c .before .unless .ensures) (c .unless2 .ensures)
+    opened-is (o .before .args .E) (o .open-sides .result) (o .open-sides .ensures) (t .before .bound .ensures) (t .tail-after .ensures) (c .before .none-lost .ensures) (c .none-lost2 .ensures)
 
 pub opened-spec : {M : Type 1} → statement M
 opened-spec =
@@ -42,6 +42,6 @@ opened-spec =
     open-sides-requires
     bound-requires
     tail-after-requires
-    unless-requires
-    unless-requires-2
+    none-lost-requires
+    none-lost-requires-2
     returns)
