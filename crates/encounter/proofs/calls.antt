@@ -4,7 +4,6 @@ pub mod Conjunctions
 pub mod Requests
 pub mod Stars
 pub mod Invariant
-pub mod Adding
 pub mod Lending
 pub mod Rows
 pub mod Claiming

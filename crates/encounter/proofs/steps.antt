@@ -6,3 +6,4 @@ pub mod SideNumbers
 pub mod Divisors
 pub mod Tracing
 pub mod NextLosses
+pub mod Counting

@@ -1,11 +1,9 @@
 // begin, with and without object and time, add and read, by value.
 ghost use mathlib.Core.Path.{_≡_};
-ghost use mathlib.Core.Bool.{_&&_};
-ghost use Prim.Native.Nat.{suc, _+_, _≤_, _<_};
-ghost use lib.Dec.{ltb};
+ghost use Prim.Native.Nat.{_+_, _≤_};
 ghost use Rattle.exact.specs.Numbers.{largest-order};
 ghost use Rattle.encounter.specs.Session.{empty as empty-session, state, conjunction-of};
-ghost use Rattle.encounter.specs.Private.Held.{Begun, at-order, with-losses};
+ghost use Rattle.encounter.specs.Private.Held.{Begun, at-order};
 ghost use Rattle.encounter.specs.Calls.{begins, begins-conjunction, adds, reads, call, Reached};
 ghost use Rattle.encounter.specs.Enclosure.{Demands};
 ghost use Rattle.encounter.specs.Claims.{Claims};
@@ -35,11 +33,11 @@ use crate::state::Letters;
 use crate::state::Session;
 use crate::state::Side;
 use crate::state::Terms;
+use crate::steps::counts::Counts;
+use crate::steps::counts::counts_after;
 use crate::steps::letters::letters;
-use crate::steps::losses::none_lost;
 use crate::steps::progress::Progress;
 use crate::steps::progress::advance;
-use crate::steps::progress::exact_step;
 use exact::Conjunction;
 use exact::Encounter;
 use exact::LARGEST_ORDER;
@@ -143,9 +141,9 @@ fn later_side(s: Side, terms: Terms) -> Side
     }
 }
 
-// A session at another order, with its count of exact terms and its losses as they are.
-fn at_order(s: Session, n: u32, p: Progress) -> Session
-    ensures { λ r. ⌜ r ≡ at-order s n p ⌝ }
+// A session at another order.
+fn at_order(s: Session, n: u32, p: Progress, k: Counts) -> Session
+    ensures { λ r. ⌜ r ≡ at-order s n p k ⌝ }
 {
     let lower = later_side(s.lower, p.lower);
     let upper = later_side(s.upper, p.upper);
@@ -155,54 +153,19 @@ fn at_order(s: Session, n: u32, p: Progress) -> Session
     session.lower = lower;
     session.upper = upper;
     session.d = d;
+    session.exact = k.exact;
+    session.lossless = k.lossless;
     session
 }
 
-// A session `count` terms on, with its count of exact terms and its losses as they are.
-fn later(s: Session, count: u32) -> Session
-    requires { ⌜ (Begun s) × (s .N + count ≤ largest-order) ⌝ }
-    ensures { λ r. ⌜ r ≡ with-losses (state (conjunction-of s) (s .N + count)) (s .exact) (s .lossless) ⌝ }
-{
-    at_order(s, s.N + count, advance(s, count))
-}
-
-// A session one term on, where nothing was lost before.
-fn one_more(s: Session) -> Session
-    requires { ⌜ (Begun s) × (s .N < largest-order) × (0 < s .lossless) ⌝ }
-    ensures { λ r. ⌜ r ≡ state (conjunction-of s) (suc (s .N)) ⌝ }
-{
-    let next = exact_step(s);
-    let lost = next.losses;
-    let exact = s.exact + none_lost(lost.term);
-    let lossless = none_lost(lost.operand);
-    let mut session = at_order(s, s.N + 1, next.progress);
-    session.exact = exact;
-    session.lossless = lossless;
-    session
-}
-
-// Whether the next of `left` terms may be exact.
-fn may_be_exact(lossless: u32, left: u32) -> bool
-    ensures { λ r. ⌜ r ≡ (ltb 0 lossless && ltb 0 left) ⌝ }
-{
-    if lossless == 0 {
-        return false;
-    }
-    0 < left
-}
-
-// A session `count` terms on: one by one while nothing is lost, then the others together.
+// A session `count` terms on.
 fn further(s: Session, count: u32) -> Session
     requires { ⌜ (Begun s) × (s .N + count ≤ largest-order) ⌝ }
     ensures { λ r. ⌜ r ≡ state (conjunction-of s) (s .N + count) ⌝ }
 {
-    let mut session = s;
-    let mut left = count;
-    while may_be_exact(session.lossless, left) {
-        session = one_more(session);
-        left -= 1;
-    }
-    later(session, left)
+    let k = counts_after(s, count);
+    let p = advance(s, count);
+    at_order(s, s.N + count, p, k)
 }
 
 // Adds terms: refused as 21 or 22.

@@ -9,18 +9,20 @@ use Rattle.exact.specs.Private.Ranges.{InRange, Letters-in, Terms-in}
 use Rattle.exact.specs.Numbers.{largest-order}
 use Rattle.exact.specs.declared.Encounter.{Encounter}
 use Rattle.exact.specs.Arithmetic.{rounded}
+use Rattle.exact.specs.Losses.{exact-terms}
 use Rattle.exact.specs.Steps.{LettersOf, TermsOf, next, next-d, terms, tail-term, side-letters, side-start, side-terms, M, d}
 use Rattle.exact.proofs.Accepted.{facts}
 use Rattle.exact.proofs.Ranges.{widen}
 use Rattle.exact.proofs.Exponents.{terms-in, tail-in, bound-in, letters-in, start-in}
 use Rattle.encounter.specs.declared.state.Terms.{Terms}
 use Rattle.encounter.specs.declared.state.Session.{Session}
+use Rattle.encounter.specs.declared.steps.counts.Counts.{Counts}
 use Rattle.encounter.specs.declared.steps.progress.Progress.{Progress}
 use Rattle.encounter.specs.declared.arithmetic.wide.Wide.{Wide}
 use Rattle.encounter.specs.declared.steps.sides.LetterPairs.{LetterPairs}
 use Rattle.encounter.specs.declared.steps.sides.TermPairs.{TermPairs}
 use Rattle.encounter.specs.Session.{side, state, conjunction-of}
-use Rattle.encounter.specs.Private.Held.{held-letters, step-letters, held-terms, step-terms, progress, at-order, with-losses, Begun}
+use Rattle.encounter.specs.Private.Held.{held-letters, step-letters, held-terms, step-terms, progress, counts, at-order, Begun}
 use Rattle.encounter.specs.Private.Loops.{narrow, letters-of, terms-of}
 use Rattle.encounter.proofs.steps.Pairs.{by-side}
 
@@ -35,6 +37,10 @@ module _ (s : Session) (b : Begun s) where
   pub upper-letters-are : s .upper .letters ≡ held-letters (side-letters true E)
   unfolding state side
   upper-letters-are = ap (λ (x : Session). x .upper .letters) (b .is)
+
+  pub exact-is : s .exact ≡ exact-terms E (s .N)
+  unfolding state
+  exact-is = ap (λ (x : Session). x .exact) (b .is)
 
   pub M-is : s .M ≡ M E
   unfolding state
@@ -122,7 +128,7 @@ module _ (E : Encounter) (n : ℕ) where
   unfolding side-terms terms
   next-side up el et er = er ∙ rw (el, et, add-one)
 
-  pub next-d-is : {m x r : Scaled} → m ≡ M E → x ≡ d E (suc n) → r ≡ next-d (rounded true 32) m (n + 1) x → r ≡ d E (suc (n + 1))
+  next-d-is : {m x r : Scaled} → m ≡ M E → x ≡ d E (suc n) → r ≡ next-d (rounded true 32) m (n + 1) x → r ≡ d E (suc (n + 1))
   unfolding d tail-term
   next-d-is em ex er = er ∙ rw (em, ex, add-one)
 
@@ -149,16 +155,16 @@ module _ (E : Encounter) (n : ℕ) where
       let c = ey ∙ h .tail-is in
       λ i. record { lower = a i; upper = b i; d = c i }
 
--- the session after the terms of an add, by its fields: its count of exact terms and its losses are still those before
+-- the session after an add, by its fields
 module _ (s : Session) (b : Begun s) where
-  at-index : (n : ℕ) (p : Progress) → p ≡ progress (s .encounter) n → at-order s (suc n) p ≡ with-losses (state (conjunction-of s) (suc n)) (s .exact) (s .lossless)
+  at-index : (n : ℕ) (p : Progress) (k : Counts) → p ≡ progress (s .encounter) n → k ≡ counts (s .encounter) (suc n) → at-order s (suc n) p k ≡ state (conjunction-of s) (suc n)
   unfolding state side progress
-  at-index n p e =
+  at-index n p k e f =
       let le = ap (λ (x : Session). x .lower .exponential) (b .is) in
       let he = ap (λ (x : Session). x .upper .exponential) (b .is) in
       let r = ap (λ (x : Session). x .r256) (b .is) in
-      rw (e, lower-letters-are s b, upper-letters-are s b, le, he, r, M-is s b)
+      rw (e, f, lower-letters-are s b, upper-letters-are s b, le, he, r, M-is s b)
 
-  pub added-is : (N : ℕ) (p : Progress) → 1 ≤ N → p ≡ progress (s .encounter) (N - 1) → at-order s N p ≡ with-losses (state (conjunction-of s) N) (s .exact) (s .lossless)
-  added-is zero p l e = let f : ⊥ = omega arith in absurd f
-  added-is (suc n) p l e = let k : suc n - 1 ≡ n = omega arith in at-index n p (rw k at e)
+  pub added-is : (N : ℕ) (p : Progress) (k : Counts) → 1 ≤ N → p ≡ progress (s .encounter) (N - 1) → k ≡ counts (s .encounter) N → at-order s N p k ≡ state (conjunction-of s) N
+  added-is zero p k l e f = let f : ⊥ = omega arith in absurd f
+  added-is (suc n) p k l e f = let i : suc n - 1 ≡ n = omega arith in at-index n p k (rw i at e) f

@@ -1,7 +1,7 @@
 -- The session's structs and the steps' records into each other, what the terms of an add change, both t of an encounter, and what the premise of a call comes to. Private
 -- functions ask for these.
 use mathlib.Core.Path.{_≡_}
-use mathlib.Core.Bool.{Bool, true, false}
+use mathlib.Core.Bool.{Bool, true, false, cond}
 use Prim.Native.Nat.{ℕ, suc, _≤_}
 use Rattle.exact.specs.declared.Encounter.{Encounter}
 use Rattle.exact.specs.declared.Scaled.{Scaled}
@@ -9,7 +9,7 @@ use Rattle.exact.specs.Numbers.{largest-order}
 use Rattle.exact.specs.declared.Traced.{Traced}
 use Rattle.exact.specs.Arithmetic.{traced}
 use Rattle.exact.specs.Steps.{LettersOf, TermsOf, next, side-letters, side-terms, d}
-use Rattle.exact.specs.Losses.{operand-lost}
+use Rattle.exact.specs.Losses.{operand-lost, exact-terms, lossless}
 use Rattle.exact.specs.Private.Clean.{clean-letters, clean-terms}
 use Rattle.exact.specs.Refusals.{Accepted}
 use Rattle.encounter.specs.declared.state.Letters.{Letters}
@@ -17,6 +17,8 @@ use Rattle.encounter.specs.declared.state.Terms.{Terms}
 use Rattle.encounter.specs.declared.state.Session.{Session}
 use Rattle.encounter.specs.declared.state.Called.{Called}
 use Rattle.encounter.specs.declared.state.Taken.{Taken}
+use Rattle.encounter.specs.declared.steps.counts.Counts.{Counts}
+use Rattle.encounter.specs.declared.steps.counts.Counting.{Counting}
 use Rattle.encounter.specs.declared.steps.losses.Losses.{Losses}
 use Rattle.encounter.specs.declared.steps.losses.TracedLetters.{TracedLetters}
 use Rattle.encounter.specs.declared.steps.losses.TracedTerms.{TracedTerms}
@@ -47,25 +49,17 @@ pub record Clean-losses (up : Bool) (l : LettersOf Scaled) (s : TermsOf Scaled) 
   pub term-is : r .term ≡ next (traced up 32) (clean-letters l) n (clean-terms s) .c .lost
   pub operand-is : r .operand ≡ operand-lost (clean-letters l) (next (traced up 32) (clean-letters l) n (clean-terms s))
 
--- a session with another count of exact terms and other losses
-abbrev pub with-losses : Session → ℕ → ℕ → Session
-with-losses s exact lossless = record {
-  encounter = s .encounter;
-  object = s .object;
-  time = s .time;
-  N = s .N;
-  lower = s .lower;
-  upper = s .upper;
-  r256 = s .r256;
-  M = s .M;
-  d = s .d;
-  exact = exact;
-  lossless = lossless;
-}
+-- how many of the terms are exact at order N, and whether nothing was lost on the way to what the next one is formed of, as a number
+abbrev pub counts : Encounter → ℕ → Counts
+counts E N = record { exact = exact-terms E N; lossless = cond (lossless E N) 1 0 }
 
--- a session at another order, with its terms and d; the count and the losses stay
-abbrev pub at-order : Session → ℕ → Progress → Session
-at-order s N p = record {
+-- both sides' terms of index n, and the counts there
+abbrev pub counting : Encounter → ℕ → Counting
+counting E n = record { lower = held-terms (side-terms false E n); upper = held-terms (side-terms true E n); counts = counts E (suc n) }
+
+-- a session at another order
+abbrev pub at-order : Session → ℕ → Progress → Counts → Session
+at-order s N p k = record {
   encounter = s .encounter;
   object = s .object;
   time = s .time;
@@ -75,8 +69,8 @@ at-order s N p = record {
   r256 = s .r256;
   M = s .M;
   d = p .d;
-  exact = s .exact;
-  lossless = s .lossless;
+  exact = k .exact;
+  lossless = k .lossless;
 }
 
 -- both sides' terms and d at order n + 1

@@ -21,7 +21,7 @@ use crate::steps::losses::losses_at;
 use crate::steps::losses::none_lost;
 use crate::steps::losses::term_numbers;
 use crate::steps::powers::exponential_sums;
-use crate::steps::terms::tail_after;
+use crate::steps::terms::first_tail;
 use exact::Encounter;
 use exact::Scaled;
 
@@ -89,7 +89,7 @@ pub fn opened(E: Encounter, above: TracedLetters) -> Session
     let r256 = sides.r256;
     let lost = sides.losses;
     let M = bound(upper.letters);
-    let d = tail_after(M, upper.terms.c, 0);
+    let d = first_tail(M, upper.terms.c);
     let exact = none_lost(lost.term);
     let lossless = none_lost(lost.operand);
     Session {

@@ -1,8 +1,7 @@
 // Both sides' terms and the upper d, taken on term by term.
 ghost use mathlib.Core.Path.{_≡_};
-ghost use mathlib.Core.Bool.{true, false, not};
-ghost use Prim.Native.Nat.{suc, _+_, _-_, _≤_};
-ghost use Rattle.exact.specs.Losses.{either-lost, lossless};
+ghost use mathlib.Core.Bool.{true, false};
+ghost use Prim.Native.Nat.{_+_, _-_, _≤_};
 ghost use Rattle.exact.specs.Numbers.{largest-order};
 ghost use Rattle.encounter.specs.Private.Held.{step-letters, step-terms, progress, Begun};
 ghost use Rattle.encounter.specs.Private.Loops.{narrow, letters-of, terms-of};
@@ -11,9 +10,6 @@ use crate::arithmetic::wide::narrowed;
 use crate::arithmetic::wide::widen;
 use crate::state::Session;
 use crate::state::Terms;
-use crate::steps::losses::Losses;
-use crate::steps::losses::either_side;
-use crate::steps::losses::side_step;
 use crate::steps::sides::LetterPairs;
 use crate::steps::sides::TermPairs;
 use crate::steps::sides::letter_pairs;
@@ -21,7 +17,6 @@ use crate::steps::sides::side_terms;
 use crate::steps::sides::term_pairs;
 use crate::steps::terms::next_tail;
 use crate::steps::terms::next_terms;
-use crate::steps::terms::tail_after;
 use exact::Scaled;
 
 // What the terms of an add change.
@@ -29,30 +24,6 @@ pub struct Progress {
     pub lower: Terms,
     pub upper: Terms,
     pub d: Scaled,
-}
-
-// One term more, and its losses.
-pub struct ExactStep {
-    pub progress: Progress,
-    pub losses: Losses,
-}
-
-// Where nothing was lost before.
-pub fn exact_step(s: Session) -> ExactStep
-    requires { ⌜ (Begun s) × (lossless (s .encounter) (s .N) ≡ true) ⌝ }
-    ensures { λ r. ⌜ (r .progress ≡ progress (s .encounter) (s .N)) × (r .losses .term ≡ either-lost (s .encounter) (s .N)) × (r .losses .operand ≡ not (lossless (s .encounter) (suc (s .N)))) ⌝ }
-{
-    let below = s.lower;
-    let above = s.upper;
-    let n = (s.N - 1) as u64;
-    let one = side_step(false, below.letters, below.terms, n);
-    let other = side_step(true, above.letters, above.terms, n);
-    let losses = either_side(one.losses, other.losses);
-    let lower = one.terms;
-    let upper = other.terms;
-    let d = tail_after(s.M, s.d, n + 1);
-    let progress = Progress { lower, upper, d };
-    ExactStep { progress, losses }
 }
 
 // A session's numbers as the loop holds them.

@@ -100,10 +100,10 @@ pub fn next_tail(M: Wide, d: Wide, n: u64) -> Wide
     r.number
 }
 
-// The same, as a session holds them.
-pub fn tail_after(M: Scaled, d: Scaled, n: u64) -> Scaled
-    requires { ⌜ (n ≤ largest-order) × (InRange 32 400 M) × (InRange 32 (2 ^ 22) d) ⌝ }
-    ensures { λ r. ⌜ r ≡ next-d (rounded true 32) M n d ⌝ }
+// d(1) from d(0), which is c(0).
+pub fn first_tail(M: Scaled, c: Scaled) -> Scaled
+    requires { ⌜ (InRange 32 400 M) × (InRange 32 177 c) ⌝ }
+    ensures { λ r. ⌜ r ≡ next-d (rounded true 32) M 0 c ⌝ }
 {
-    narrowed(next_tail(widen(M), widen(d), n))
+    narrowed(next_tail(widen(M), widen(c), 0))
 }

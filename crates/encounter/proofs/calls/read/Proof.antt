@@ -1,7 +1,7 @@
 use mathlib.Core.Path.{_≡_, sym, _∙_, ap}
 use mathlib.Core.Bool.{Bool, not}
 use Rattle.encounter.proofs.calls.Invariant.{begun, demands}
-use Rattle.encounter.proofs.calls.Adding.{exact-is}
+use Rattle.encounter.proofs.steps.Progressing.{exact-is}
 use Rattle.encounter.proofs.calls.Reading.{not-not, lower-end-fine, upper-end-fine}
 use Rattle.encounter.proofs.calls.Answering.{read-21, read-23, read-taken, bracket-is}
 use borrow.Author.Needs.{needs}

@@ -1,6 +1,4 @@
-use lib.Dec.{lit≤}
 use Rattle.exact.proofs.Accepted.{facts}
-use Rattle.exact.proofs.Ranges.{widen}
 use Rattle.encounter.proofs.steps.Opening.{side-letters-fine, side-start-fine, bound-fine, opened-is}
 use borrow.Author.Needs.{needs}
 use Rattle.encounter.proofs.calls.opening.opened.Statement.{statement}
@@ -15,13 +13,13 @@ bound-requires c κs =
     let z = o .before in
     side-letters-fine (z .args .E) (o .open-sides .ensures .1) (facts (z .pre .0) .bounds)
 
-tail-after-requires : tie.Need-tail-after-requires
-tail-after-requires c κs =
+first-tail-requires : tie.Need-first-tail-requires
+first-tail-requires c κs =
     let o = c .before .before .before .before .before in
     let z = o .before in
     let f = facts (z .pre .0) .bounds in
     let h = o .open-sides .ensures .1 in
-    (lit≤ tt, bound-fine (z .args .E) h f (c .bound .ensures), widen (lit≤ tt) (side-start-fine (z .args .E) h f))
+    (bound-fine (z .args .E) h f (c .bound .ensures), side-start-fine (z .args .E) h f)
 
 none-lost-requires : tie.Need-none-lost-requires
 none-lost-requires c κs = search needs
@@ -33,7 +31,7 @@ returns : tie.Need-returns
 returns c =
     let t = c .before .before in
     let o = t .before .before .before .before .before .before in
-    opened-is (o .before .args .E) (o .open-sides .result) (o .open-sides .ensures) (t .before .bound .ensures) (t .tail-after .ensures) (c .before .none-lost .ensures) (c .none-lost2 .ensures)
+    opened-is (o .before .args .E) (o .open-sides .result) (o .open-sides .ensures) (t .before .bound .ensures) (t .first-tail .ensures) (c .before .none-lost .ensures) (c .none-lost2 .ensures)
 
 pub opened-spec : {M : Type 1} → statement M
 opened-spec =
@@ -41,7 +39,7 @@ opened-spec =
     (tie.spec
     open-sides-requires
     bound-requires
-    tail-after-requires
+    first-tail-requires
     none-lost-requires
     none-lost-requires-2
     returns)
