@@ -100,7 +100,7 @@ pub fn first_terms(up: bool, l: TracedLetters, start: Traced) -> TracedTerms
     }
 }
 
-// The steps of terms.rt, of one side and with losses: only the terms before the first loss go this way.
+// The steps of terms.rt, of one side and with losses.
 
 // c(n + 1).
 fn next_term(up: bool, l: TracedLetters, s: TracedTerms, n: u64) -> Traced
