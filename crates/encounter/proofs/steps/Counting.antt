@@ -15,6 +15,7 @@ use Rattle.exact.specs.Steps.{next, side-letters, side-terms}
 use Rattle.exact.proofs.Accepted.{facts}
 use Rattle.exact.proofs.Exponents.{letters-in}
 use Rattle.exact.proofs.Losses.{exact-le, lossless-all, exact-more, exact-ends, later-same}
+use Rattle.encounter.specs.declared.state.Letters.{Letters}
 use Rattle.encounter.specs.declared.state.Terms.{Terms}
 use Rattle.encounter.specs.declared.state.Session.{Session}
 use Rattle.encounter.specs.declared.steps.counts.Counting.{Counting}
@@ -88,14 +89,23 @@ module _ (s : Session) (b : Begun s) where
       ∙ rw e
 
   module _ (n : ℕ) (nl : n < largest-order) {w : Counting} (e : w ≡ counting E n) where
+    lower-terms : step-terms (w .lower) ≡ side-terms false E n
+    lower-terms = ap (λ (w : Counting). step-terms (w .lower)) e
+
+    upper-terms : step-terms (w .upper) ≡ side-terms true E n
+    upper-terms = ap (λ (w : Counting). step-terms (w .upper)) e
+
     -- what a side's step asks for
-    pub lower-fine : (n < largest-order) × (Letters-in (step-letters (s .lower .letters))) × (Terms-in (2 ^ 22) (step-terms (w .lower)))
+    side-fine : (up : Bool) {l : Letters} {t : Terms} → step-letters l ≡ side-letters up E → step-terms t ≡ side-terms up E n
+        → (n < largest-order) × (Letters-in (step-letters l)) × (Terms-in (2 ^ 22) (step-terms t))
     unfolding side-letters
-    lower-fine = (nl, rw lower-letters (letters-in false (facts (b .fine) .bounds)), rw e (terms-fine s b n (omega (arith, nl)) false))
+    side-fine up p q = (nl, rw p (letters-in up (facts (b .fine) .bounds)), rw q (terms-fine s b n (omega (arith, nl)) up))
+
+    pub lower-fine : (n < largest-order) × (Letters-in (step-letters (s .lower .letters))) × (Terms-in (2 ^ 22) (step-terms (w .lower)))
+    lower-fine = side-fine false lower-letters lower-terms
 
     pub upper-fine : (n < largest-order) × (Letters-in (step-letters (s .upper .letters))) × (Terms-in (2 ^ 22) (step-terms (w .upper)))
-    unfolding side-letters
-    upper-fine = (nl, rw upper-letters (letters-in true (facts (b .fine) .bounds)), rw e (terms-fine s b n (omega (arith, nl)) true))
+    upper-fine = side-fine true upper-letters upper-terms
 
     pub exact-high : w .counts .exact ≤ largest-order
     exact-high = let x : w .counts .exact ≡ exact-terms E (suc n) = ap (λ (w : Counting). w .counts .exact) e in omega (arith, x, exact-le E (suc n), nl)
@@ -114,12 +124,10 @@ module _ (s : Session) (b : Begun s) where
         → y ≡ cond (r .operand) 0 1
         → record { lower = lo; upper = hi; counts = record { exact = w .counts .exact + x; lossless = y } } ≡ counting E (suc n)
     next-is {r = r} {x} {y} l el eh ka kb er ex ey =
-        let p₀ : step-terms (w .lower) ≡ side-terms false E n = ap (λ (w : Counting). step-terms (w .lower)) e in
-        let p₁ : step-terms (w .upper) ≡ side-terms true E n = ap (λ (w : Counting). step-terms (w .upper)) e in
         let h = nothing-lost l in
-        let k = next-losses-are E n lower-letters upper-letters p₀ p₁ h ka kb er in
-        let u = side-terms-are false E n lower-letters p₀ el in
-        let v = side-terms-are true E n upper-letters p₁ eh in
+        let k = next-losses-are E n lower-letters upper-letters lower-terms upper-terms h ka kb er in
+        let u = side-terms-are false E n lower-letters lower-terms el in
+        let v = side-terms-are true E n upper-letters upper-terms eh in
         let c : w .counts .exact + x ≡ exact-terms E (suc (suc n)) = rw (e, ex) (more-exact E n (r .term) h (k .0)) in
         let o = opposite (lossless E (suc (suc n))) ey (k .1) in
         λ i. record { lower = u i; upper = v i; counts = record { exact = c i; lossless = o i } }
