@@ -1,4 +1,5 @@
--- What a reader relies on beyond the contracts: one record of statements, each proved. `Session::empty` promises it, so that none can be dropped or weakened.
+-- What a reader relies on beyond the contracts: one record of statements, each proved. `Session::empty` promises it, so the crate is taken only where all of it is
+-- proved.
 use mathlib.Core.Path.{_≡_}
 use mathlib.Core.Bool.{Bool, true, false}
 use Prim.Native.Nat.{ℕ, suc, _-_, _*_, _≤_, _<_}

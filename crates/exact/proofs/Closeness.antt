@@ -20,10 +20,10 @@ use Rattle.exact.proofs.Enclosure.{up, one-is, lower-powers-pos, lower-
 use Rattle.exact.proofs.Accepted.{facts}
 
 -- 1 + 2^-31
-abbrev ρ : Frac
+abbrev pub ρ : Frac
 ρ = slack 31
 
-one≼ρ : whole 1 ≼ ρ
+pub one≼ρ : whole 1 ≼ ρ
 unfolding slack whole _over_ IsLe
 one≼ρ = record { le = le-by-compare _ _ tt }
 
@@ -65,7 +65,7 @@ lift : (q ρ x : Frac) → q ⊗ x ⊗ ρ ≼ q ⊗ (ρ ⊗ x)
 unfolding _⊗_
 lift q ρ x = record { le = omega arith }
 
-over-exact : Within (rounded true 32) unrounded (λ w x q. Near ρ w (value x) q)
+pub over-exact : Within (rounded true 32) unrounded (λ w x q. Near ρ w (value x) q)
 over-exact = of-values (side true 32) exact (near-kept one≼ρ (λ p q r h. ≼-trans (near-up p) (≼-trans (mul-mono h (≼-refl ρ)) (lift q ρ r))))
 
 -- 2 × 64^256/256!, with 1,280 roundings upwards, is at most 2^-31
@@ -111,7 +111,7 @@ module _ (E : Encounter) where
   unfolding side-letters
   letters-near = letters-close close E
 
-  start-near : Near (ρ ⊗ ρ) 1 (value (side-start true E)) (value (side-start false E))
+  pub start-near : Near (ρ ⊗ ρ) 1 (value (side-start true E)) (value (side-start false E))
   unfolding side-start
   start-near = start-close close E
 

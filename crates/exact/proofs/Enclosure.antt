@@ -124,7 +124,7 @@ module _ (E : Encounter) where
   unfolding side-powers
   le-upper-r k = ≼-trans (≽-of (powers-are (t E) k .r-is)) (powers-close above (whole 1) (t E) one _ (≽-of one-is) (upper-letters .t) k .r)
 
-  m-le-M : m (u E) (h E) (X E) (Y E) ≼ value (M E)
+  pub m-le-M : m (u E) (h E) (X E) (Y E) ≼ value (M E)
   unfolding M m bound unrounded
   m-le-M = bound-close above _ _ upper-letters
 

@@ -21,7 +21,7 @@ module _ (E : Encounter) where
   sum-scaled (suc n) = D-scaled _
 
   -- one term more: the sum so far is a scaled number not above the exact sum, so D of that is not below it
-  sum-next : (n : ℕ) → value (side-terms false E n .sum) ≼ value (side-terms false E (suc n) .sum)
+  pub sum-next : (n : ℕ) → value (side-terms false E n .sum) ≼ value (side-terms false E (suc n) .sum)
   unfolding side-terms terms next rounded
   sum-next n = round-is false 32 _ (lit< tt) .best _ (sum-scaled n) (drop-last _ _)
 

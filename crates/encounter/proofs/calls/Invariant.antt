@@ -1,5 +1,6 @@
 -- Along every list of calls the session is empty, or it is the steps' state of the encounter and the order that the requests tell. From that, the demands.
 use mathlib.Core.Path.{_≡_, refl, sym, ap}
+use mathlib.Core.Bool.{false}
 use mathlib.Core.List.{List, [], _∷_}
 use Prim.Native.Nat.{ℕ, suc, _+_, _≤_}
 use mathlib.Core.Logic.{⊎-elim}
@@ -66,22 +67,21 @@ Read w r = (C : Conjunction) × (N : ℕ) × (w ≡ encounter-at C N) × Enclose
 not-zero : {A : Type 0} (n : ℕ) → suc n ≡ 0 → A
 not-zero n z = let f : ⊥ = omega arith in absurd f
 
+-- the bracket at an order that is read
+pub encloses : (C : Conjunction) {N : ℕ} → Accepted (C .encounter) → 1 ≤ N → refuses-23 (C .encounter) N ≡ false → Encloses (C .encounter) N (bracket C N)
+unfolding bracket
+encloses C {N} h l z = record { order-is = refl; lower-is = refl; upper-is = refl; between = enclosed h N l z; close = ends-close h N l }
+
 enclosing : {s : Session} {w : History} → Whole s w → refusal w read ≡ 0 → Read w (outcome w read s)
 unfolding Read refusal
 enclosing nothing z = not-zero 20 z
-enclosing (at {C} {N} h l u) z = unfold outcome refusal bracket in rw z (
+enclosing (at {C} {N} h l u) z = unfold outcome refusal in rw z (
   C,
   N,
   refl,
-  record {
-    order-is = refl;
-    lower-is = refl;
-    upper-is = refl;
-    between = enclosed (h .fine) N l (passed 22 (refuses-23 (C .encounter) N) 0 z .0);
-    close = ends-close (h .fine) N l;
-  },
-  record { object-is = refl; time-is = refl },
-  refl,
+  encloses C (h .fine) l (passed 22 (refuses-23 (C .encounter) N) 0 z .0),
+  unfold bracket in record { object-is = refl; time-is = refl },
+  unfold bracket in refl,
 )
 
 -- a call on such a session is what the history tells

@@ -1,0 +1,4 @@
+pub mod Orders
+pub mod Advice
+pub mod Claims
+pub mod Private
