@@ -6,9 +6,11 @@
 
    Exits with 1 where an answer differs from the proved library's. */
 #define _POSIX_C_SOURCE 200809L
+#include "advice.h"
 #include "contender.h"
 #include "decimals.h"
 #include <inttypes.h>
+#include <math.h>
 #include <stdio.h>
 #include <stdlib.h>
 #include <string.h>
@@ -242,6 +244,45 @@ static void print_decimals(void)
     }
 }
 
+/* Whether both versions advise the same orders: of the empty session, of the cases, of drawn encounters, and for each whole M up to 300 and next to it. */
+static int compare_advice(const struct measured *list)
+{
+    for (int i = -1; i < CASE_COUNT + SCREENED + 900; i++) {
+        jinthuol_session session = jinthuol_empty();
+        if (i >= CASE_COUNT + SCREENED) {
+            /* sx = sy and ym = 0: M is (R/sy)^2/2 x (1 + (xm/sy)^2/2); the R is the nearest, one less and one more */
+            int j = i - CASE_COUNT - SCREENED;
+            double s = 100000, x = 8, M = 1 + j / 3;
+            uint32_t R = (uint32_t)(s * sqrt(2 * M / (1 + x * x / 2)) + j % 3 - 1);
+            jinthuol_begin(&session, (jinthuol_encounter){R, (uint32_t)s, (uint32_t)s, (int32_t)(s * x), 0});
+        } else if (i >= 0) {
+            jinthuol_begin(&session, (i < CASE_COUNT ? &CASES[i] : &list[i - CASE_COUNT])->E);
+        }
+        jinthuol_advice found = same_advice(session), due = jinthuol_advise(session);
+        if (found.refusal != due.refusal || found.order != due.order) {
+            printf("advice %d differs: %" PRIu32 " %" PRIu32 "\n", i, found.order, due.order);
+            return 0;
+        }
+    }
+    return 1;
+}
+
+/* The advice for each case. */
+static void print_advice(void)
+{
+    static double found[2][ROUNDS];
+    printf("\nAn advised order, proved and in C with the table in memory\n  %-8s %9s %9s  /same\n", "", "proved", "same");
+    for (int i = 0; i < CASE_COUNT; i++) {
+        jinthuol_session session = jinthuol_empty();
+        jinthuol_begin(&session, CASES[i].E);
+        for (int round = 0; round < ROUNDS; round++) {
+            found[0][round] = NANOSECONDS(1024, LEAST, sink = jinthuol_advise(session).order);
+            found[1][round] = NANOSECONDS(1024, LEAST, sink = same_advice(session).order);
+        }
+        printf("  %-8s %9.1f %9.1f  %5.2f\n", CASES[i].name, median(found[0]), median(found[1]), ratio(found[0], found[1]));
+    }
+}
+
 /* Nanoseconds of a begin of kind 4 by the library. */
 static double time_conjunction(jinthuol_encounter E)
 {
@@ -292,12 +333,13 @@ static int table(void)
         if (!compare(&list[i]))
             return 1;
     fill_powers();
-    if (!compare_decimals())
+    fill_orders();
+    if (!compare_decimals() || !compare_advice(list))
         return 1;
     print_processor();
     printf("Nanoseconds and ratios, medians of %d rounds. A term is both sides and the tail term.\n", ROUNDS);
     printf("/same, /plain, /doubles: proved over it. mpfr/: MPFR over proved.\n");
-    printf("The ends, N and class of all contenders are equal, and so are the decimals of both versions.\n");
+    printf("The ends, N and class of all contenders are equal, and so are the decimals and the advice of both versions.\n");
     measure(list);
     for (int i = 0; i < CASE_COUNT; i++) {
         jinthuol_encounter E = CASES[i].E;
@@ -309,6 +351,7 @@ static int table(void)
     print_times(times[CASE_COUNT], READ);
     print_begins();
     print_decimals();
+    print_advice();
     return 0;
 }
 

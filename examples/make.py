@@ -87,11 +87,11 @@ SCRIPTS = {
     + begin(*TEST_1)
     + reads_at(1, 36, 40, 45, 50, 55, 60),
     "open-class": begin(*OPEN_THEN_ALERT)
-    + reads_at(1, 2, 18)
+    + reads_at(1, 2, 17)
     + begin(*OPEN_THEN_CLEAR)
-    + reads_at(1, 2, 4, 5, 19)
+    + reads_at(1, 2, 4, 5, 17)
     + begin(*ALWAYS_OPEN)
-    + reads_at(1, 2, 14),
+    + reads_at(1, 2, 13),
     "decimals": begin(*HALF)
     + reads_at(3, 20)
     + begin(*ALFANO_3)
@@ -110,22 +110,22 @@ SCRIPTS = {
     + reads_at(1),
     "negative-miss": begin(*CSM_2) + reads_at(1, 6) + begin(*CSM_2_MIRRORED) + reads_at(1, 6),
     "shift": begin_conjunction(CHAN_5, 25544, 605)
-    + reads_at(14)
+    + reads_at(13)
     + begin_conjunction(TEST_1, 27386, 642)
-    + reads_at(70)
+    + reads_at(66)
     + begin_conjunction(OPEN_THEN_CLEAR, 43013, 690)
-    + reads_at(2, 19)
+    + reads_at(2, 17)
     + begin_conjunction(CHAN_1, 25544, 698)
-    + reads_at(14)
+    + reads_at(13)
     + begin(*HALF)
-    + reads_at(15),
+    + reads_at(13),
     "refused-object": begin_conjunction(CHAN_5, 25544, 605)
-    + reads_at(14)
+    + reads_at(13)
     + begin_conjunction(TEST_1, 0, 642)
     + read()
-    + reads_at(70)
+    + reads_at(66)
     + begin_conjunction(TEST_1, 27386, 642)
-    + reads_at(70),
+    + reads_at(66),
     "where-rounding-starts": begin(*HALF)
     + reads_at(1, 2, 3, 20)
     + begin(*FIVE_EXACT)
@@ -134,6 +134,15 @@ SCRIPTS = {
     + reads_at(1, 20)
     + begin(*ROUNDED_B)
     + reads_at(1, 2, 20),
+    "advised-order": read()
+    + begin(*TEST_1)
+    + reads_at(20, 36, 66)
+    + begin(*OPEN_THEN_CLEAR)
+    + reads_at(2, 17)
+    + begin(*CHAN_1)
+    + reads_at(13)
+    + begin(*ALFANO_3)
+    + reads_at(597, 911),
 }
 
 

@@ -6,8 +6,8 @@
 The folder holds the library; `rt staticlib jinthuol` writes it to target/staticlib. Encounters go through
 bindings/c/example.c, compiled as C and as C++; guard.c tries that no call writes past a session. The tests of
 bindings/rust are run. Scripts go through bindings/python and bindings/rust, and their records as calls through
-bindings/python, where every number of the session is compared too. What is built goes to target/bindings. Exits with 1
-at the first difference.
+bindings/python, where every number of the session and its advice are compared too. What is built goes to
+target/bindings. Exits with 1 at the first difference.
 """
 
 import itertools
@@ -59,7 +59,7 @@ def output(command, **more):
 
 
 def cases(rng):
-    """The five inputs and an order for each; after them an object number and a time, or not."""
+    """The five inputs and an order for each, or 0 for the advised one; then an object number and a time, or not."""
     for case in inputs_and_orders(rng):
         yield rng.choice((case, (*case, *drawn.object_and_time(rng))))
     for _, (*encounter, number, time) in edges.conjunctions():
@@ -68,14 +68,16 @@ def cases(rng):
 
 def inputs_and_orders(rng):
     for encounter in [*DOCUMENTS.values(), *EDGES.values(), SMALL, THIN]:
-        for N in (1, 6, *chosen(rng, encounter, LARGEST_N)):
+        for N in (0, 1, 6, *chosen(rng, encounter, LARGEST_N)):
             yield *encounter, N
+    for encounter, _ in edges.ADVISED:
+        yield *encounter, 0
     for encounter, *_ in AT_THRESHOLD:
         yield *encounter, 1
     for encounter, N, *_ in (*edges.AT_DECIMAL_EDGES, *edges.EXACT_TERMS):
         yield *encounter, N
     for encounter in encounters.at_limits():
-        yield *encounter, rng.choice((2, 5))
+        yield *encounter, rng.choice((0, 2, 5))
     for _ in range(60):
         for encounter in (*drawn.beside_64(rng), *drawn.near_64(rng)):
             yield *encounter, rng.choice((1, 2, 20))
@@ -86,7 +88,9 @@ def inputs_and_orders(rng):
 
 
 def chosen(rng, encounter, most):
-    """The least order that is read and one beside it, where they are below most; else any order. Some too large."""
+    """The least order that is read and one beside it, where they are below most; else any. Some are too large, or 0."""
+    if rng.random() < 0.05:
+        yield 0
     if rng.random() < 0.02:
         yield rng.choice((LARGEST_N, LARGEST_N + 1, MOST_COUNT + 1))
     least = orders.least(encounter) if orders.begun(encounter) else 0
@@ -109,6 +113,8 @@ def lines_of(call, answer):
     """What the program prints of a call."""
     if answer.refusal:
         return [f"refused {answer.refusal}: {REFUSALS[answer.refusal].replace('−', '-')}"]
+    if call == "advise":
+        return [f"advised {answer.order}" if answer.order is not None else "no order is advised: M is above 256"]
     words = [WORDS[call], answer.N]
     if call != "read":
         return [" ".join(map(str, words))]
@@ -121,12 +127,18 @@ def lines_of(call, answer):
 
 
 def called(R, sx, sy, xm, ym, N, *of_object):
-    """The three calls by reference.py."""
+    """The calls by reference.py."""
     session = Session()
     if of_object:
         yield "begin_conjunction", session.begin_conjunction(R, sx, sy, xm, ym, *of_object)
     else:
         yield "begin", session.begin(R, sx, sy, xm, ym)
+    if N == 0:
+        advice = session.advise()
+        yield "advise", advice
+        if advice.order is None:
+            return
+        N = advice.order
     yield "add", session.add(N - 1)
     yield "read", session.read()
 
@@ -143,7 +155,8 @@ def fails(what, program, **given):
 # long for it.
 WRONG_LINES = (
     "8 1 1 8 0",
-    "8 1 1 8 0 0",
+    "8 1 1 8 0 -1",
+    "8 1 1 8 0 65537",
     "4294967296 1 1 0 0 1",
     "8 1 1 2147483648 0 1",
     "8 1 1 8 0 1 25544",
@@ -218,7 +231,10 @@ def arguments(record, python):
 
 
 def call_by_call(name, script, python):
-    """The script's first records as calls from Python: every number of the answer and the session. Gives how many."""
+    """The script's first records as calls from Python: every number of the answer, of the session and of its advice.
+
+    Gives how many.
+    """
     found, due = python.Session.empty(), Session()
     calls = 0
     for record in itertools.islice(records.records(script), 100):
@@ -226,11 +242,11 @@ def call_by_call(name, script, python):
             break
         a = getattr(found, record.kind.call)(*arguments(record, python))
         answer = [a.refusal, a.N, a.lower.m, a.lower.e, a.upper.m, a.upper.e, a.class_, a.object, a.time]
-        answer += [a.exact_terms]
-        numbers = answer + list(found.kept.words)
+        advice = found.advise()
+        numbers = [*answer, a.exact_terms, *found.kept.words, advice.refusal, advice.has_order, advice.order]
         expected = fields.answer_numbers(record.called(due))
         # Python has the session's words unsigned.
-        expected += [number % (1 << 32) for number in fields.session_numbers(due)]
+        expected += [number % (1 << 32) for number in fields.session_numbers(due)] + fields.advice_numbers(due.advise())
         if numbers != expected:
             names = [field for (field, _), a, b in zip(fields.FIELDS, numbers, expected) if a != b]
             what = f"from Python, {name}, {record.kind.call} {record.inputs} at {record.position}"
@@ -289,7 +305,7 @@ def of_rust():
     return passed, BUILT / "rust/release/examples/screen"
 
 
-FUNCTIONS = ("empty", "begin", "begin_conjunction", "add", "read", "to_decimal", "run")
+FUNCTIONS = ("empty", "begin", "begin_conjunction", "add", "read", "advise", "to_decimal", "run")
 
 
 def of_another_version():

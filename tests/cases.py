@@ -5,8 +5,8 @@
 
 For each encounter: the least order N at which a read is accepted, or the refusal that is due; at that
 order and at two later ones the exact quotients are between the two ends, and the class is that of the ends.
-Then encounters with an end next to 1/10,000, document 01's "Encounters on each edge", and the count of exact terms of
-these and of drawn encounters. Exits with 1 where anything differs.
+Then encounters with an end next to 1/10,000, document 01's "Encounters on each edge", the count of exact terms of these
+and of drawn encounters, and reads at the advised order and at later ones. Exits with 1 where anything differs.
 """
 
 import random
@@ -20,6 +20,7 @@ import edges
 import exact_series
 import options
 import orders
+from advice import LARGEST_M
 from brackets import as_float
 from checks import Checks
 from encounters import AT_THRESHOLD, DOCUMENTS, EDGES, FULL, HALF, IN_CENTIMETRES
@@ -167,11 +168,35 @@ def exact_terms():
     checks.check(due <= met, "counts", f"not met: {sorted(due - met)}")
 
 
+def advised():
+    """Request #106: at the advised order, and at later ones, a read is accepted and the tail bound is small."""
+    rng = random.Random(options.SEED)
+    tried = [*DOCUMENTS.values(), *EDGES.values(), *(inputs for inputs, _ in edges.ADVISED)]
+    tried += [drawn.accepted(rng) for _ in range(60)]
+    tried += [inputs for M in rng.sample(range(1, LARGEST_M + 1), 12) for inputs in drawn.beside_M(rng, M)]
+    for n, inputs in enumerate(filter(orders.begun, tried)):
+        session = orders.begun(inputs)
+        order = session.advise().order
+        if order is None:
+            continue
+        later = [order + 1, order + rng.randint(2, 200), *([LARGEST_N] if n % 16 == 0 else [])]
+        for N in order, *later:
+            session.add(N - session.N)
+            answer = session.read()
+            ok = answer.refusal == 0 and brackets.is_close(session)
+            checks.check(ok, "advised orders", f"{inputs} at {N}, where {order} is advised: {answer}")
+            if N == order:
+                checks.check(brackets.within_closeness(answer), "closeness bounds", f"{inputs}: closeness at {N}")
+    # Here M is 1, and 13 is advised. Two terms fewer are too few.
+    edge(not brackets.is_close(at_order((1, 1, 1, 1, 1), 11)), "(1, 1, 1, 1, 1) at 11")
+
+
 def main():
     table()
     at_threshold()
     on_edges()
     exact_terms()
+    advised()
     checks.end()
 
 

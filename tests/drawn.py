@@ -5,7 +5,7 @@ import math
 import orders
 from edges import MOST_32
 from encounters import MISSES, SIZES
-from exact_series import Encounter
+from exact_series import Encounter, letters
 from records import KINDS, MOST_COUNT, READ, add, packed
 from reference import LARGEST, LARGEST_N, LARGEST_T, Session
 
@@ -63,6 +63,22 @@ def with_least(rng, low, high, count):
         if low <= orders.least(encounter) <= high:
             found.append(encounter)
     return found
+
+
+def beside_M(rng, M):
+    """Two accepted ones that differ by 1 in ym: the exact M of one is this number or below it, of the other above it.
+
+    Both are off by less than 1.
+    """
+    while True:
+        sx, sy = sigmas(rng)
+        first = Encounter(radius(rng, sy), sx, sy, miss(rng, sx), 0)
+        # Y is u × ym²/(2sy²).
+        square = math.floor((M - orders.exact_M(first)) * 2 * sy * sy / letters(first).u)
+        if square >= 0:
+            found = [first._replace(ym=math.isqrt(square) + more) for more in (0, 1)]
+            if all(abs(orders.exact_M(one) - M) < 1 and orders.begun(one) for one in found):
+                return found
 
 
 def beside_64(rng):

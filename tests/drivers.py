@@ -169,8 +169,8 @@ fn main() {
 # The calls. Reads records of 29 bytes: the kind, then seven words, little-endian. Kinds 1 to 4 are those of a script:
 # begin with its five inputs, add with its count in the first word, read, and begin_conjunction with its seven inputs.
 # Kinds 5, 6 and 7 are begin, add and begin_conjunction on a session that is lent; else it goes by value. Kind 0 stands for
-# an empty session in place of the one before. Writes every number of the answer, then of the session, in the order of
-# fields.py.
+# an empty session in place of the one before. Writes every number of the answer, then of the session, then of what
+# `advise` answers on it, in the order of fields.py.
 SESSIONS = """\
 mod words;
 use crate::words::encounter_at;
@@ -178,6 +178,8 @@ use crate::words::put;
 use crate::words::put_scaled;
 use crate::words::unsigned;
 use crate::words::word;
+use advice::Advice;
+use advice::advise;
 use encounter::calls;
 use encounter::state::Answer;
 use encounter::state::Called;
@@ -277,14 +279,29 @@ fn put_session(line: &mut [u8], at: usize, s: Session) -> usize {
     put(line, next, s.lossless)
 }
 
+fn put_three(line: &mut [u8], at: usize, refusal: u32, has_order: u32, order: u32) -> usize {
+    let mut next = put(line, at, refusal);
+    next = put(line, next, has_order);
+    put(line, next, order)
+}
+
+fn put_advice(line: &mut [u8], at: usize, a: Advice) -> usize {
+    match a {
+        Advice::Order(N) => put_three(line, at, 0, 1, N as u32),
+        Advice::None => put_three(line, at, 0, 0, 0),
+        Advice::Refused(r) => put_three(line, at, r, 0, 0),
+    }
+}
+
 fn main() {
     let mut record = [0u8; 29];
-    let mut line = [10u8; 561];
+    let mut line = [10u8; 585];
     let mut s = Session::empty();
     while io::read_full(0, &mut record) == 29 {
         let answer = call(&mut s, &record);
-        let next = put_answer(&mut line, 0, answer);
-        put_session(&mut line, next, s);
+        let mut next = put_answer(&mut line, 0, answer);
+        next = put_session(&mut line, next, s);
+        put_advice(&mut line, next, advise(s));
         io::write_all(1, &line);
     }
 }
@@ -358,6 +375,23 @@ fn main() {
         let a = to_decimal(b[0] == 1, x);
         let next = put(&mut line, 0, a.digits);
         put(&mut line, next, a.power);
+        io::write_all(1, &line);
+    }
+}
+"""
+
+# The table of orders. Reads records of one byte, each an index of the table, and writes the order that stands there.
+ORDERS = """\
+mod words;
+use crate::words::put;
+use advice::orders;
+
+fn main() {
+    let mut index = [0u8; 1];
+    let mut line = [10u8; 9];
+    let table = orders();
+    while io::read_full(0, &mut index) == 1 {
+        put(&mut line, 0, table[index[0] as usize] as u32);
         io::write_all(1, &line);
     }
 }

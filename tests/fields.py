@@ -1,4 +1,4 @@
-"""Every number of an answer and of a session, with its name."""
+"""Every number of an answer, of a session and of its advice, with its name."""
 
 SIDE = ["u", "h", "X", "Y", "t", "exponential", "c", "p", "v", "y", "sum"]
 INPUTS = ["R", "sx", "sy", "xm", "ym"]
@@ -30,7 +30,8 @@ SESSION = [
     ("exact", False),
     ("lossless", False),
 ]
-FIELDS = ANSWER + SESSION
+ADVICE = [("advice.refusal", False), ("advice.has_order", False), ("advice.order", False)]
+FIELDS = ANSWER + SESSION + ADVICE
 
 
 def side_numbers(side):
@@ -55,3 +56,8 @@ def session_numbers(session):
         session.exact,
         session.lossless,
     ]
+
+
+def advice_numbers(advice):
+    """The refusal, 1 where there is an order and else 0, and the order, or 0."""
+    return [advice.refusal, int(advice.order is not None), advice.order or 0]

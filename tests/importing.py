@@ -26,8 +26,8 @@ import ends
 import options
 import scaled
 from checks import Checks
-from edges import EXACT_TERMS
-from encounters import AT_THRESHOLD
+from edges import ADVISED, EXACT_TERMS
+from encounters import AT_THRESHOLD, FULL, TEST_1
 from options import ROOT
 from reference import REFUSALS
 
@@ -207,6 +207,7 @@ AT_55 = f"{ENDS_55}, exact terms: 1"
 def of_answers(module):
     session, wrong, test_1 = module.Session.empty(), (0, 1, 1, 0, 0), (500, 5000, 100, 1000, 0)
     conjunction = module.Conjunction(module.Encounter(*test_1), object=25544, time=1440)
+    of_advice(module)
     for answer, due in (
         (session.read(), "refused 21: add or read with no encounter begun"),
         (session.begin(module.Encounter(*wrong)), "refused 3: R is 0 or above 10,000,000"),
@@ -270,6 +271,28 @@ def of_answers(module):
             checks.check(False, "answers", f"the listing of {given!r}: {module.run(given)}")
         except TypeError:
             pass
+
+
+def of_advice(module):
+    """Request #106: what advise answers, in fields and in words, and that it keeps the session."""
+    session = module.Session.empty()
+    refused = session.advise(), False, "refused 21: add or read with no encounter begun"
+    session.begin(module.Encounter(*FULL))
+    none = session.advise(), False, "no order: M above 256"
+    session.begin(module.Encounter(*TEST_1))
+    kept = module.Kept.from_buffer_copy(session.kept)
+    order = session.advise(), True, "order 66"
+    checks.check(session.kept == kept, "advice", "the session after advise")
+    session.add(54)
+    checks.check(session.advise() == order[0] != none[0], "advice", "equal advice")
+    for (found, *due), numbers in zip((refused, none, order), ((21, 0), (0, 0), (0, 66)), strict=True):
+        ok = (found.refusal, found.order) == numbers and [found.has_order, str(found)] == due
+        ok = ok and repr(found) == "Advice(refusal=%d, order=%d)" % numbers
+        checks.check(ok, "advice", f"{found!r}, {found}, due: {numbers}, {due}")
+    for inputs, due in ADVISED:
+        session.begin(module.Encounter(*inputs))
+        found = session.advise().order
+        checks.check(found == (due or 0), "advice", f"{inputs}: {found}, due: {due}")
 
 
 def main():

@@ -35,7 +35,17 @@ def least(encounter):
     return least_of(begun(encounter))
 
 
-def exact_least(encounter):
-    """The same by the exact M."""
+def advised(encounter):
+    """Request #106: the advised order of an encounter that is accepted, or None."""
+    return begun(encounter).advise().order
+
+
+def exact_M(encounter):
+    """M without rounding."""
     u, h, X, Y, _, _ = exact_series.letters(encounter)
-    return least_for(u + h / 2 + X + Y)
+    return u + h / 2 + X + Y
+
+
+def exact_least(encounter):
+    """The least order that is read by the exact M."""
+    return least_for(exact_M(encounter))

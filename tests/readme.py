@@ -1,5 +1,5 @@
 #!/usr/bin/env python3
-"""Runs the commands of README.md as they stand there, and compares what they print with README and the examples.
+"""Runs the commands of README.md and examples/advised-order.md as they stand there, and compares what they print.
 
     python3 tests/readme.py
 
@@ -20,6 +20,7 @@ import records
 from brackets import as_float
 from checks import Checks
 from encounters import ASTRIDE, DOCUMENTS, TEST_1
+from exact_series import Encounter
 from markdown import blocks, section
 from options import ROOT
 
@@ -30,12 +31,22 @@ LISTING = (ROOT / "examples/test-1.listing").read_text().splitlines()
 checks = Checks("readme")
 
 
-def prints(command, due):
+def prints(command, due, status=0):
     """The command, in the repository's folder, prints these lines; on standard error only cargo says something."""
     ended = subprocess.run(command, shell=True, cwd=ROOT, capture_output=True, text=True, timeout=LONGEST_RUN)
     quiet = ended.stderr == "" or command.startswith("cargo ")
-    ok = ended.returncode == 0 and quiet and ended.stdout.splitlines() == due
+    ok = ended.returncode == status and quiet and ended.stdout.splitlines() == due
     checks.check(ok, "commands", f"{command}\n  found: {ended.returncode} {ended.stdout}{ended.stderr}\n    due: {due}")
+
+
+def due_as_advised():
+    """What the example in C prints of Test 1 at the advised order."""
+    read = orders.at_order(TEST_1, orders.advised(TEST_1)).read()
+    listing = records.listing(records.begin(*TEST_1) + records.add(read.N - 1) + records.READ)
+    begun, added, line = (line.split(" ", 1)[1] for line in listing.splitlines())
+    doubles = f"{as_float(read.lower):.17g} {as_float(read.upper):.17g}"
+    rounding = f"rounding starts at term {read.exact + 1} of {read.N}"
+    return [begun, f"advised {read.N}", added, f"{line} {doubles}", rounding]
 
 
 def of_c(lines):
@@ -51,11 +62,49 @@ def of_c(lines):
             f"about {as_float(read.lower):.9g} to {as_float(read.upper):.9g}",
             f"object 27386 at minute 642, {read.exact} of 55 terms exact",
         ]
+        read = orders.at_order(encounter, orders.advised(encounter)).read()
+        ends = f"{as_float(read.lower):.9g} to {as_float(read.upper):.9g}"
+        due.append(f"advised {read.N}, read at {read.N}: about {ends}")
         main = "\n".join(code).replace(braced(TEST_1), braced(encounter))
         checks.check(braced(encounter) in main, "commands", f"no encounter {encounter} in the lines of C")
         source.write_text("\n".join(["#include <math.h>", "#include <stdio.h>", header, "int main(void) {", main, "}"]))
         prints(f"{compiler} -o {program}", [])
         prints(str(program), due)
+        told = [line for line in due[2:] if f"prints `{line}`" in section("From C and C++")]
+        checks.check(len(told) == (2 if encounter == TEST_1 else 0), "commands", f"what README says is printed: {told}")
+
+
+def of_advised_order():
+    """examples/advised-order.py, as its text has it: it reads and may write a script, or its status is 1."""
+    parts = blocks((ROOT / "examples/advised-order.md").read_text())
+    pairs = list(zip(parts[::2], parts[1::2]))
+    [command] = [first for [first, *more], _ in pairs if more]
+    _, _, *inputs, _, path = command.split()
+    encounter, path = Encounter(*map(int, inputs)), ROOT / path
+    path.unlink(missing_ok=True)
+    # The one that writes the script comes last.
+    for commands, due in sorted(pairs, key=lambda pair: command in pair[0]):
+        is_read = due[0].startswith("Advised: ")
+        prints(" && ".join(commands), due, status=0 if is_read else 1)
+        if not is_read:
+            prints(f"{commands[0]} --script {path}", [*due, "No script is written."], status=1)
+            checks.check(not path.exists(), "commands", f"a script is written by: {commands[0]}")
+    due = records.begin(*encounter) + records.add(orders.advised(encounter) - 1) + records.READ
+    checks.check(path.read_bytes() == due, "commands", f"another script is written by: {command}")
+    [[command]] = blocks(section("How many terms"))
+    checks.check([command] in parts, "commands", f"not in advised-order.md: {command}")
+    read = orders.at_order(ASTRIDE, orders.advised(ASTRIDE)).read()
+    ends = f"{records.decimal_text(False, read.lower)} to {records.decimal_text(True, read.upper)}"
+    due = [
+        f"Advised: order {read.N}. The begin has 1 term; {read.N - 1} more are added.",
+        f"Read with {read.N} terms: the probability is from {ends}.",
+        "The class is open: this read does not tell on which side of 1/10,000 it is.",
+    ]
+    program, inputs = "python3 examples/advised-order.py", " ".join(map(str, ASTRIDE))
+    prints(f"{program} {inputs}", due)
+    for wrong in "", "1 2 3 4", "1 2 3 4 x", "-1 2 2 0 0", f"{1 << 32} 2 2 0 0", f"{inputs} --script target/none/of":
+        ended = subprocess.run(f"{program} {wrong}", shell=True, cwd=ROOT, capture_output=True, text=True)
+        checks.check(ended.returncode == 2 and ended.stderr, "commands", f"{wrong}: {ended.returncode} {ended.stdout}")
 
 
 def main():
@@ -68,9 +117,9 @@ def main():
     prints(command, [str(Decimal(m) * Decimal(5) ** -e * Decimal(10) ** e)])
     _, [command], listing = blocks(section("A script, byte by byte"))
     prints(command, listing)
-    [archive, *compilers, command], due, [header], code, with_object = blocks(section("From C and C++"))
+    [archive, *compilers, command], due, [header], code, with_object, as_advised = blocks(section("From C and C++"))
     checks.check(archive == "rt staticlib jinthuol", "commands", f"the library: {archive}")
-    [command_with_object] = re.findall(r"`(echo .+? \| target/example)`", section("From C and C++"))
+    command_with_object, command_as_advised = re.findall(r"`(echo .+? \| target/example)`", section("From C and C++"))
     programs = [compiler.split()[-1] for compiler in compilers]
     for program, compiler in zip(programs, compilers):
         (ROOT / program).unlink(missing_ok=True)
@@ -78,21 +127,24 @@ def main():
         prints(command.replace(programs[0], program), due)
         due_with_object = [line.replace(" 0 0 ", " 27386 642 ") for line in due]
         prints(command_with_object.replace(programs[0], program), due_with_object)
+        prints(command_as_advised.replace(programs[0], program), due_as_advised())
     checks.check(command.endswith(programs[0]) and len(set(programs)) == 2, "commands", f"the programs: {programs}")
-    of_c([header, *code, *with_object])
+    of_c([header, *code, *with_object, *as_advised])
     [[command]] = blocks(section("From Rust"))
     prints(command, LISTING)
-    [command, interpreter], example, with_object = blocks(section("From Python"))
+    [command, interpreter], example, with_object, as_advised = blocks(section("From Python"))
     prints(command, LISTING)
     checks.check(interpreter == "PYTHONPATH=bindings/python python3", "commands", f"the interpreter: {interpreter}")
     sys.path.insert(0, str(ROOT / "bindings/python"))
-    test = doctest.DocTestParser().get_doctest("\n".join(example + with_object) + "\n", {}, "README.md", None, 0)
+    lines = "\n".join(example + with_object + as_advised) + "\n"
+    test = doctest.DocTestParser().get_doctest(lines, {}, "README.md", None, 0)
     runner = doctest.DocTestRunner()
     runner.run(test)
     checks.check(runner.tries > 3 and runner.failures == 0, "commands", "the example in Python")
     import jinthuol
 
     checks.check(doctest.testmod(jinthuol).failed == 0, "commands", "the example of the module")
+    of_advised_order()
     checks.end()
 
 

@@ -1,4 +1,4 @@
-"""The rounded steps, the session and the calls of document 01, as requests #101 to #105 change them.
+"""The rounded steps, the session and the calls of document 01, as requests #101 to #106 change them.
 
 A number of the steps is a triple (m, e, lost), as in rounded.py: so each number's way is what the steps say. An end is
 a pair (m, e). records.py has the script and its listing.
@@ -9,6 +9,7 @@ from dataclasses import dataclass, field
 from typing import NamedTuple
 
 import scaled
+from advice import order_for
 from rounded import DOWN, ONE, UP, ZERO, above, at_least, doubled, halved
 
 # Document 01's numbers. The largest R, sx, sy and miss, in centimetres:
@@ -148,6 +149,14 @@ class Answer(NamedTuple):
     exact: int = 0
 
 
+# Request #106: "The session answers the entry for its upper M, taken up to a whole number, or `none` above 256".
+class Advice(NamedTuple):
+    """A refusal's number, or 0; then the order, or None."""
+
+    refusal: int = 0
+    order: int | None = None
+
+
 def class_of(lower, upper):
     """Request #101, the class of two ends: "Anything between is `open`"."""
     if at_least(lower, 1, THRESHOLD_FACTOR):
@@ -250,6 +259,12 @@ class Session:
         upper = UP.quotient(UP.plus(self.upper.sum, self.tail_bound()), self.lower.exponential)
         lower, upper = lower[:2], upper[:2]
         return Answer(0, self.N, lower, upper, class_of(lower, upper), self.object, self.time, self.exact)
+
+    def advise(self):
+        # Request #106: "an empty session is refused as 21."
+        if self.N == 0:
+            return Advice(21)
+        return Advice(order=order_for(scaled.value(scaled.Scaled(*self.M[:2]))))
 
     def tail_bound(self):
         """The upper side's 2d(N)."""

@@ -6,7 +6,7 @@
 The arithmetic is compared with scaled.py, and every stored number with document 01's steps on scaled.py's numbers, with
 what is lost on its way. Wrong counts of exact terms are told from the right ones. The decimals are compared with
 request #103 by exact fractions, and its three promises are tested on them. The calls, the decimals and the listing are
-compared with the answers of edges.py.
+compared with the answers of edges.py, and so is the advice.
 """
 
 import copy
@@ -17,6 +17,7 @@ from fractions import Fraction
 from unittest import mock
 
 sys.dont_write_bytecode = True
+import advice
 import brackets
 import decimals
 import drawn
@@ -31,7 +32,7 @@ import scaled
 from checks import Checks
 from encounters import DOCUMENTS, FIVE, FULL, HALF, LOST_B, LOST_P, SMALL, TEST_1
 from records import MOST_COUNT
-from reference import EXPONENTIAL_CUT, LARGEST, LARGEST_N, Answer, Session, Side
+from reference import EXPONENTIAL_CUT, LARGEST, LARGEST_N, Advice, Answer, Session, Side
 from scaled import LEAST, LIMIT, ZERO, Scaled
 
 checks = Checks("self_test")
@@ -350,6 +351,49 @@ def of_calls(rng):
         call(pieces == orders.at_order(inputs, 101) and pieces.N == 101, f"adds in pieces {inputs}")
 
 
+# The advice.
+
+
+def of_table_of_orders():
+    """The rule on fractions, at each entry and one below it."""
+
+    def follows(M, N):
+        return 2 * M <= N + 2 and 2 * Fraction(M) ** N / math.factorial(N + 1) <= Fraction(1, 1 << 32)
+
+    for M, N in enumerate(advice.ORDERS, 1):
+        ok = follows(M, N) and not follows(M, N - 1)
+        checks.check(ok, "advice", f"the entry for M = {M}: {N}")
+    # "for M = 1 it is 13"
+    found = len(advice.ORDERS), advice.ORDERS[0], advice.ORDERS[-1]
+    checks.check(found == (256, 13, 708), "advice", f"the table: {found}")
+
+
+def of_advice(rng):
+    """The orders of edges.py: at N = 1, after adds and after refused begins, and the session is as it was."""
+    of_table_of_orders()
+    empty = Session()
+    for refused in [None, *edges.REFUSED]:
+        if refused:
+            empty.begin(*refused)
+        found = empty.advise()
+        checks.check(found == Advice(21) and empty == Session(), "advice", f"on an empty session: {found}")
+    for M, inputs, side, steps, _ in edges.AT_WHOLE_M:
+        exact, upper = orders.exact_M(inputs), Scaled(*orders.begun(inputs).M[:2])
+        near = scaled.whole(M)
+        for _ in range(abs(steps)):
+            near = scaled.above(near) if steps > 0 else scaled.below(near)
+        found = (exact > M) - (exact < M), upper == near
+        checks.check(found == (side, True), "advice", f"M of {inputs}: {exact} and {upper}")
+    for inputs, order in edges.ADVISED:
+        session = orders.begun(inputs)
+        for count in 0, 1, rng.randrange(2, 40):
+            session.add(count)
+            session.begin(*edges.REFUSED[0])
+            kept, found = copy.deepcopy(session), session.advise()
+            ok = found == Advice(order=order) and session == kept
+            checks.check(ok, "advice", f"{inputs} at {session.N}: {found}, due {order}")
+
+
 # The script.
 
 
@@ -375,6 +419,7 @@ def main():
     of_wrong_counts()
     of_decimals(rng)
     of_calls(rng)
+    of_advice(rng)
     of_scripts()
     checks.end()
 

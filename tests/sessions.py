@@ -1,12 +1,13 @@
 #!/usr/bin/env python3
-"""Compares the calls begin, begin_conjunction, add and read of crate `encounter` with reference.py.
+"""Compares the calls begin, begin_conjunction, add and read of crate `encounter`, and advise of crate `advice`, with
+reference.py.
 
     python3 tests/sessions.py [--root FOLDER] [--seed N]
 
-After each call every field of the answer and every number of the session is compared. scratch.py runs a
-program that keeps a session and makes the calls; of the first three every other one is the call on a lent session.
-Short sequences of calls run interpreted and compiled; the long ones run compiled, and on the interpreter as far as it
-gets.
+After each call every field of the answer, every number of the session and what advise answers on it are compared.
+scratch.py runs a program that keeps a session and makes the calls; of the first three every other one is the call on a
+lent session. Short sequences of calls run interpreted and compiled; the long ones run compiled, and on the interpreter
+as far as it gets.
 """
 
 import collections
@@ -27,6 +28,7 @@ import encounters
 import fields
 import orders
 import scratch
+from advice import LARGEST_M, ORDERS
 from encounters import (
     ALFANO_3,
     ASTRIDE,
@@ -41,12 +43,13 @@ from encounters import (
     LOST_B,
     LOST_P,
     SMALL,
+    TEST_1,
     THIN,
     THIRDS,
     WIDE,
 )
 from records import KINDS, MOST_COUNT
-from reference import LARGEST, LARGEST_N, Answer, Session
+from reference import LARGEST, LARGEST_N, Advice, Answer, Session
 from rounded import UP
 
 # The calls.
@@ -95,16 +98,20 @@ def record(call):
     return struct.pack("<BIIIiiII", NUMBERS[call.kind, call.lent], *(*call.inputs, 0, 0, 0, 0, 0, 0, 0)[:7])
 
 
-def line(answer, session):
-    return drivers.line(fields.answer_numbers(answer) + fields.session_numbers(session))
-
-
 class Made(NamedTuple):
-    """A call, what it answers, and its line."""
+    """A call, what it answers, what advise answers on the session after it, and its line."""
 
     call: Call
     answer: Answer
+    advice: Advice
     line: str
+
+
+def made_on(session, call, answer):
+    """The call, with its answer, after which this is the session."""
+    advice = session.advise()
+    numbers = fields.answer_numbers(answer) + fields.session_numbers(session) + fields.advice_numbers(advice)
+    return Made(call, answer, advice, drivers.line(numbers))
 
 
 def made(calls):
@@ -112,7 +119,7 @@ def made(calls):
     session = Session()
     for call in calls:
         answer = getattr(session, call.kind)(*call.inputs)
-        yield Made(call, answer, line(answer, session))
+        yield made_on(session, call, answer)
 
 
 # The sequences of calls; each starts on an empty session.
@@ -245,6 +252,12 @@ def of_exact_terms(rng):
     yield [call for inputs in tried[:5] * 2 for call in (begin(*inputs), READ, add(3))]
 
 
+def of_advice(rng):
+    """M beside whole numbers, and others. An add and a refused begin keep the advice, an accepted begin does not."""
+    for tried in in_pieces([inputs for inputs, _ in edges.ADVISED], 6):
+        yield [call for inputs in tried for call in (begin(*inputs), add(1), rng.choice(REFUSED), add(3))]
+
+
 def of_documents(rng):
     for inputs in [*DOCUMENTS.values(), *EDGES.values()]:
         n = orders.least(inputs) if orders.begun(inputs) else 0
@@ -284,6 +297,7 @@ SHORT = [
     at_test_23,
     at_classes,
     of_exact_terms,
+    of_advice,
     of_documents,
     random_encounters,
     random_calls,
@@ -315,6 +329,20 @@ def at_far_test_23(rng):
         yield [begin(*inputs), add(orders.least(inputs) - 2), READ, add(1), READ]
 
 
+def beside_whole_M(rng):
+    """M on both sides of each whole number that the table has, and of the next one."""
+    for M in range(1, LARGEST_M + 2):
+        yield [call for inputs in drawn.beside_M(rng, M) for call in (begin(*inputs), add(1))]
+
+
+def at_advice(rng):
+    """One below the advised order, at it, and later."""
+    for inputs in [TEST_1, SMALL, *(drawn.accepted(rng) for _ in range(20))]:
+        order = orders.advised(inputs)
+        if order is not None:
+            yield [begin(*inputs), add(order - 2), READ, add(1), READ, add(rng.randint(1, 1000)), READ]
+
+
 def more_random_calls(rng):
     for _ in range(20):
         yield [random_call(rng, 500) for _ in range(100)]
@@ -322,7 +350,7 @@ def more_random_calls(rng):
         yield [begin(*drawn.accepted(rng)), add(rng.randint(0, 100)), READ, add(rng.randint(0, 1000)), READ]
 
 
-LONG = [to_largest, at_far_test_23, more_random_calls]
+LONG = [to_largest, at_far_test_23, beside_whole_M, at_advice, more_random_calls]
 
 
 # The run.
@@ -389,7 +417,7 @@ def every_other_lent(calls, counts):
 
 def sequences(parts, seed):
     """The calls of the parts with what is due, each sequence from an empty session on."""
-    empty = Made(EMPTY, Answer(), line(Answer(), Session()))
+    empty = made_on(Session(), EMPTY, Answer())
     counts = collections.Counter()
     for part in parts:
         for calls in part(random.Random(f"{part.__name__} {seed}")):
@@ -397,7 +425,7 @@ def sequences(parts, seed):
 
 
 def main():
-    options = scratch.arguments("Compares the calls of crate encounter with reference.py.")
+    options = scratch.arguments("Compares the calls of crates encounter and advice with reference.py.")
     print("sessions: seed %d" % options.seed)
     calls = []
     with tempfile.TemporaryDirectory() as name:
@@ -413,6 +441,9 @@ def main():
     due = {(kind, lent, answer) for kind, answer in edges.ANSWERS for lent in (False, True) if (kind, lent) in NUMBERS}
     if answered != due:
         sys.exit("sessions: answers that no call had, or that none may have: %s" % sorted(answered ^ due))
+    advised, due = {one.advice for one in calls}, {Advice(21), Advice(), *(Advice(order=order) for order in ORDERS)}
+    if advised != due:
+        sys.exit("sessions: advice that no session had, or that none may have: %s" % sorted(advised ^ due, key=str))
     begins = sum(one.call.kind in BEGINS and one.answer.refusal == 0 for one in calls)
     lent = sum(one.call.lent for one in calls)
     print("sessions: %d calls of %d encounters agree, %d of them on a lent session" % (len(calls), begins, lent))

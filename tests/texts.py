@@ -4,9 +4,9 @@
     python3 tests/texts.py
 
 The table of refusals in the definitions, README.md, docs/READING.md, the header, the C example, Rust and Python; the
-session's size and the version in each language; the tables of examples/*.md, whose decimals are those of the listings,
-and what their texts say of orders, lines and bytes; the listing, the bytes and the decimals of README.md; the titles of
-the documents that are cited. Exits with 1 where anything differs.
+session's size and the version in each language; the advised orders in the header; the tables of examples/*.md, whose
+decimals are those of the listings, and what their texts say of orders, lines and bytes; the listing, the bytes and the
+decimals of README.md; the titles of the documents that are cited. Exits with 1 where anything differs.
 """
 
 import math
@@ -15,6 +15,7 @@ import sys
 from fractions import Fraction
 
 sys.dont_write_bytecode = True
+import advice
 import brackets
 import edges
 import exact_series
@@ -24,7 +25,7 @@ import orders
 import records
 import scaled
 from checks import Checks
-from encounters import CLEAR_THEN_OPEN, DOCUMENTS, EDGES, HALF, SMALL, TEST_1, THIN
+from encounters import ALFANO_3, CLEAR_THEN_OPEN, DOCUMENTS, EDGES, HALF, SMALL, TEST_1, THIN
 from exact_series import Encounter
 from markdown import README, blocks, section
 from options import ROOT
@@ -94,6 +95,12 @@ def of_bindings():
     for path, found in versions.items():
         same("versions", path, found, first)
     checks.check(len(first) == 1, "versions", "there is one version")
+    header = "bindings/c/jinthuol.h"
+    said = found_in(header, r"= jinthuol_advise\(session\); +(\d+): from N = (\d+) on")
+    same("advised orders", f"{header}, of Test 1", said, [(str(orders.advised(TEST_1)),) * 2])
+    said = found_in(header, r"the advised order, from (\d+) to (\d+),")
+    due = [(str(min(advice.ORDERS)), str(max(advice.ORDERS)))]
+    same("advised orders", f"{header}, the least and the greatest", said, due)
 
 
 # Decimals.
@@ -172,6 +179,7 @@ def of_examples():
         due = [*head, *rows(script, listing, counted)]
         same("examples", stem, [line for line in text.splitlines() if line.startswith("|")], due)
         closed += of_orders(stem, text, script)
+        of_advice(stem, text, script)
         of_titles(f"examples/{stem}.md", text)
     checks.check(closed > 4, "examples", f"orders from which a bracket is close: {closed}")
 
@@ -189,6 +197,26 @@ def of_orders(stem, text, script):
         closes = [[brackets.is_close(orders.at_order(E, n)) for n in (N - 1, N)] for E in begun]
         checks.check([False, True] in closes, "examples", f"{stem}: from {N} on")
     return len(found)
+
+
+# What a text says of an encounter, or that none is advised, or of several encounters.
+ADVISED = r"[Tt]he advised order is (\d+)|[Nn]o order is (advised)|[Tt]he advised orders are, in turn, (%s)"
+ADVISED %= r"(?:(?:\d+|none)(?:, | and )?)+"
+
+
+def of_advice(stem, text, script):
+    """Request #106: the advised order of each encounter that is begun, in turn, or that none is advised.
+
+    Encounters with the same M share theirs. Where a text gives an M in decimals, one of the encounters has it.
+    """
+    Ms = list(dict.fromkeys(value(session.M) for session in map(orders.begun, encounters_of(script)) if session))
+    # What a program prints is indented.
+    words = " ".join("".join(groups) for groups in re.findall(ADVISED, re.sub("^ .*", "", text, flags=re.M)))
+    found = [int(word) if word.isdigit() else None for word in re.findall(r"\d+|none|advised", words)]
+    same("advised orders", f"{stem}, the advised orders", found, list(map(advice.order_for, Ms)))
+    for said in re.findall(r"\bM is (\d+\.\d+)", text):
+        digits = len(said.split(".")[1])
+        same("advised orders", f"{stem}, M is {said}", said in {f"{float(M):.{digits}f}" for M in Ms}, True)
 
 
 # README.
@@ -240,22 +268,13 @@ def of_readme():
         squares = Fraction(1000, 5000) ** 2 + Fraction(R, 100) ** 2
         checks.check(text.endswith(str(float(squares))) and text in README, "README", f"the squares of R = {R}")
         same("README", f"the refusal of R = {R}", Session().begin(R, 5000, 100, 1000, 0).refusal, refusal)
-    # 3M + 13 terms are enough: 2M ≤ N + 2, and 2 × M^N/(N+1)! ≤ 2^-32, which leaves a factor of two for the roundings.
-    # The first order that is read is at least 2M − 2, so half as much again and 16 more are at least 3M + 13.
-    checks.check("From N = 3M + 13 on" in README, "README", "3M + 13")
-    M = value(orders.begun(TEST_1).M)
-    checks.check(f"Test 1's 3M + 13 is {math.ceil(3 * M + 13)}" in README, "README", "3M + 13 of Test 1")
-    factorial = math.factorial(14)
-    for N in range(14, LARGEST_N + 1):
-        factorial *= N + 1
-        ok = 2 * (N - 13) <= 3 * (N + 2) and (N - 13) ** N << 33 <= 3**N * factorial
-        checks.check(ok, "orders", f"N = {N} for M = {N - 13}/3")
     stuck = orders.at_order(Encounter(20, 10, 10, 0, 0), 2), orders.at_order(Encounter(20, 10, 10, 0, 0), 3)
     text = "the upper end of (20, 10, 10, 0, 0) is the same at N = 2 and 3 and falls later"
     later = value(orders.at_order(Encounter(20, 10, 10, 0, 0), 6).read().upper)
     stays = stuck[0].read().upper == stuck[1].read().upper and later < value(stuck[0].read().upper)
     checks.check(text in README and stays, "README", text)
     of_figures()
+    of_how_many_terms()
     of_printed_ends()
     of_classes()
     of_titles("README.md", README)
@@ -283,10 +302,43 @@ def of_figures():
     found = [f"{float(value(end)):.5f}" for read in brackets_ for end in (read.lower, read.upper)]
     text = "half a centimetre more of R takes Alfano 3's 0.10040 to 0.10044"
     same("README", text, (found, text in README), (["0.10040"] * 2 + ["0.10044"] * 2, True))
-    # (1 + 2^-31)^(18N + 2,600) at N = 55, here and in docs/TRUST.md.
-    wide = (1 + Fraction(1, 1 << 31)) ** (18 * 55 + 2600) - 1
-    text = "1.7 millionths at N = 55"
-    same("README", text, (f"{float(wide) * 1e6:.1f}", text in README), ("1.7", True))
+
+
+def of_how_many_terms():
+    """What README says of orders: those of the table, and those where M is above 256."""
+    text = section("How many terms")
+    columns = [re.findall(r"\d+", row) for row in re.findall(r"^\| (?:M up to|Order) \|(.*)$", text, re.M)]
+    Ms = [int(M) for M in columns[0]] if len(columns) == 2 else []
+    found = Ms == sorted(Ms) and Ms[:1] + Ms[-1:], [int(N) for N in columns[-1]]
+    same("README", "the table of orders", found, ([1, advice.LARGEST_M], [advice.ORDERS[M - 1] for M in Ms]))
+    M = value(orders.begun(TEST_1).M)
+    words = f"Test 1 has M = {float(M):.4f}, so it is the entry for {math.ceil(M)}, which is {orders.advised(TEST_1)}."
+    checks.check(words in text, "README", words)
+    # (1 + 2^-31)^(18N + 2,600), in tenths of a millionth upward.
+    above = [(1 + Fraction(1, 1 << 31)) ** (18 * N + 2600) - 1 for N in (orders.advised(TEST_1), max(advice.ORDERS))]
+    tenths = [math.ceil(q * 10**7) / 10 for q in above]
+    words = "at most {} millionths of the value at N = 66 and {} at N = 708".format(*tenths)
+    same("README", words, (words in text, orders.advised(TEST_1), max(advice.ORDERS)), (True, 66, 708))
+    at_55 = (1 + Fraction(1, 1 << 31)) ** (18 * 55 + 2600) - 1
+    words = "at N = 55 they differ by less than 2 in the sixth digit"
+    holds = 10 * at_55 < Fraction(2, 10**5), words in (ROOT / "docs/TRUST.md").read_text()
+    same("README", f"docs/TRUST.md: {words}", holds, (True, True))
+    test_1 = [orders.at_order(TEST_1, N) for N in (54, 55, 66, 101)]
+    upper = [session.read().upper[0] for session in test_1[1:]]
+    words = "its upper m is {} at N = 55, {} at N = 66 and {} at N = 101".format(*upper)
+    found = words in text, list(map(brackets.is_close, test_1[:2])), "as Test 1 is at N = 55" in text
+    same("README", words, found, (True, [False, True], True))
+    M = value(orders.begun(ALFANO_3).M)
+    words = f"Alfano 3 has M = {float(M):.2f}, so {math.ceil(3 * M + 13)} terms."
+    found = words in text, orders.advised(ALFANO_3), "Take N = 3M + 13: from there on" in text
+    same("README", words, found, (True, None, True))
+    # 3M + 13 terms are enough: 2M ≤ N + 2, and 2 × M^N/(N+1)! ≤ 2^-32, which leaves a factor of two for the roundings.
+    # The first order that is read is at least 2M − 2, so half as much again and 16 more are at least 3M + 13.
+    factorial = math.factorial(14)
+    for N in range(14, LARGEST_N + 1):
+        factorial *= N + 1
+        ok = 2 * (N - 13) <= 3 * (N + 2) and (N - 13) ** N << 33 <= 3**N * factorial
+        checks.check(ok, "orders", f"N = {N} for M = {N - 13}/3")
 
 
 def of_printed_ends():
@@ -362,13 +414,38 @@ def of_printed_examples():
     found = [(int(minute), 60 * int(hour) + int(rest)) for minute, hour, rest in hours]
     times = {answer.time for answer in map(records.printed, lines.values()) if answer.object}
     same("examples", "shift, the hours", sorted(found), sorted((time, time) for time in times))
-    # '3M + 13 terms, taken up to a whole number': the order of the last read of each encounter.
+    # 'the last read of each encounter is at its advised order'
     last = []
     for line in lines.values():
         _, word, N, *_ = line.split()
         last = [*last, 0] if word == "begun" else [*last[:-1], int(N)]
-    due = [math.ceil(3 * value(orders.begun(encounter).M) + 13) for encounter in encounters_of(script)]
-    same("examples", "shift, 3M + 13", last, due)
+    same("examples", "shift, the last reads", last, list(map(orders.advised, encounters_of(script))))
+    of_advised_order()
+
+
+def of_advised_order():
+    """What examples/advised-order.md says beyond its table and its lines."""
+    text, lines = of_printed_lines("advised-order")
+    early, late = (records.printed(lines[offset]) for offset in (29, 33))
+    apart = [(value(read.upper) - value(read.lower)) / value(read.lower) for read in (early, late)]
+    words = "differ by more than a hundredth of the value", "differ by less than two ten-millionths of the value"
+    holds = apart[0] > Fraction(1, 100), apart[1] < Fraction(2, 10**7)
+    same("examples", f"advised-order: {words}", ([said in text for said in words], holds), ([True] * 2, (True, True)))
+    for said, M in re.findall(r"M is (\d+\.\d+), which is taken up to (\d+)", text):
+        same("examples", f"advised-order: {said} taken up", math.ceil(Fraction(said)), int(M))
+    begun = [encounter for encounter in DOCUMENTS.values() if orders.begun(encounter)]
+    least = list(map(orders.advised, begun)).count(min(advice.ORDERS))
+    words = f"Of the {len(begun)} encounters of document 000, Table 3, that are not refused, {least} have this order."
+    checks.check(words in text, "examples", f"advised-order: {words}")
+    M = value(orders.begun(ALFANO_3).M)
+    words = f"It can be read all the same, from {orders.least(ALFANO_3)} terms on."
+    checks.check(words in text, "examples", f"advised-order: {words}")
+    words = f"README.md has 3M + 13 terms for such an encounter, which is {math.ceil(3 * M + 13)} here"
+    checks.check(words in text, "examples", f"advised-order: {words}")
+    wide = (1 + Fraction(1, 1 << 31)) ** (18 * late.N + 2600) - 1
+    words = f"At N = {late.N} that is less than 1.8 millionths above the lower end."
+    holds = Fraction("1.7") < wide * 10**6 < Fraction("1.8")
+    same("examples", f"advised-order: {words}", (words in text, holds), (True, True))
 
 
 def classes(encounter):
@@ -387,10 +464,9 @@ def classes(encounter):
 def of_classes():
     """What README and examples/open-class.md say of the class at every order."""
     inputs = ", ".join(map(str, CLEAR_THEN_OPEN))
-    text = f"({inputs}), whose 3M + 13 is 13.02, is clear from N = 4 to 27 and open from 28 on"
-    M = f"{float(3 * value(orders.begun(CLEAR_THEN_OPEN).M) + 13):.2f}"
-    found = classes(CLEAR_THEN_OPEN), M, text in README
-    same("README", text, found, ([(1, "open"), (4, "clear"), (28, "open")], "13.02", True))
+    text = f"({inputs}), whose advised order is 13, is clear from N = 4 to 27 and open from 28 on"
+    found = classes(CLEAR_THEN_OPEN), orders.advised(CLEAR_THEN_OPEN), text in README
+    same("README", text, found, ([(1, "open"), (4, "clear"), (28, "open")], 13, True))
     script = (EXAMPLES / "open-class.script").read_bytes()
     begun = encounters_of(script)
     due = [[(1, "open"), (2, "alert")], [(1, 23), (2, "open"), (5, "clear")], [(1, "open")]]
@@ -401,8 +477,8 @@ def of_classes():
         (0, 1, "lower", "At N = 1 the ends are {} and"),
         (0, 1, "upper", "and {} ten-thousandths: open"),
         (0, 2, "lower", "lifts the lower end to {} ten-thousandths"),
-        (0, 18, "lower", "it is from {} to"),
-        (0, 18, "upper", "to {} ten-thousandths"),
+        (0, 17, "lower", "it is from {} to"),
+        (0, 17, "upper", "to {} ten-thousandths"),
         (1, 5, "upper", "At N = 5 the upper end is {} ten-thousandths: clear"),
         (1, 2, "upper", "the upper end was {} ten-thousandths"),
     ):

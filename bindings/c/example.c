@@ -1,11 +1,13 @@
 /* Brackets of encounters from standard input, one a line: R sx sy xm ym N, or R sx sy xm ym N object time. Begins the encounter, with
  * the object number and the time of closest approach where the line has them, adds N - 1 terms, reads, and prints the three answers in the words of a
  * listing; after a read both ends once more as doubles, and in a line of its own where rounding starts; with a refusal its condition.
+ * An N of 0 stands for the advised order, which is printed too; where there is none, nothing is added or read.
  *
  *     rt staticlib jinthuol
  *     gcc -std=c99 -I bindings/c bindings/c/example.c target/staticlib/libjinthuol.a -lm -o target/example
  *     echo 500 5000 100 1000 0 55 | target/example
  *     echo 500 5000 100 1000 0 55 25544 1440 | target/example
+ *     echo 500 5000 100 1000 0 0 | target/example
  *
  * As C++: g++ -std=c++11 -I bindings/c -x c++ bindings/c/example.c -x none target/staticlib/libjinthuol.a -o target/example-cpp */
 #include <inttypes.h>
@@ -117,6 +119,17 @@ static void print_read(jinthuol_answer a)
     print_exact_terms(a);
 }
 
+static void print_advice(jinthuol_advice a)
+{
+    if (a.refusal != 0) {
+        print_refusal(a.refusal);
+    } else if (a.order == 0) {
+        printf("no order is advised: M is above 256\n");
+    } else {
+        printf("advised %" PRIu32 "\n", a.order);
+    }
+}
+
 /* The numbers of a line, and the least and the largest that each may be. */
 enum { R, SX, SY, XM, YM, N, OBJECT, TIME, MOST };
 
@@ -126,7 +139,7 @@ static const long long LIMITS[MOST][2] = {
     {0, UINT32_MAX},
     {INT32_MIN, INT32_MAX},
     {INT32_MIN, INT32_MAX},
-    {1, 65536},
+    {0, 65536},
     {0, UINT32_MAX},
     {0, UINT32_MAX},
 };
@@ -186,6 +199,14 @@ int main(void)
             print_order("begun", jinthuol_begin_conjunction(&session, conjunction));
         } else {
             print_order("begun", jinthuol_begin(&session, encounter));
+        }
+        if (x[N] == 0) {
+            jinthuol_advice advice = jinthuol_advise(session);
+            print_advice(advice);
+            if (advice.order == 0) {
+                continue;
+            }
+            x[N] = advice.order;
         }
         print_order("added", jinthuol_add(&session, (uint16_t)(x[N] - 1)));
         print_read(jinthuol_read(session));

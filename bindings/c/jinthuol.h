@@ -3,6 +3,7 @@
  *     jinthuol_session session = jinthuol_empty();
  *     jinthuol_encounter test_1 = {500, 5000, 100, 1000, 0};    R, sx, sy, xm, ym
  *     jinthuol_begin(&session, test_1);                         N is 1
+ *     jinthuol_advice advice = jinthuol_advise(session);        66: from N = 66 on the ends are close
  *     jinthuol_add(&session, 54);                               N is 55
  *     jinthuol_answer answer = jinthuol_read(session);          both ends, the class, object and time (0 here), exact_terms: 1
  *     jinthuol_to_decimal(false, answer.lower)                  7647 and 2: at least 7.647e-02
@@ -24,7 +25,7 @@
  *      6  a miss outside -10,000,000 to 10,000,000         (both begins)
  *      7  upper t above 64                                 (both begins)
  *      9  kind 4: object number is 0                       (begin_conjunction)
- *     21  add or read with no encounter begun              (add, read)
+ *     21  add or read with no encounter begun              (add, read, advise)
  *     22  add: N + count above 4,096                       (add)
  *     23  read: 2M above N + 2                             (read)
  *
@@ -51,7 +52,7 @@ extern "C" {
 #endif
 
 /* One more with each change of a struct or a function of this header, or of what a function answers. */
-#define JINTHUOL_VERSION 5
+#define JINTHUOL_VERSION 6
 
 /* The five inputs, in whole centimetres: combined radius R, larger standard deviation sx, smaller sy, mean miss xm and ym, along the principal axes of
  * the covariance in the encounter plane. */
@@ -106,6 +107,12 @@ typedef struct {
     uint32_t exact_terms;
 } jinthuol_answer;
 
+/* The refusal's number, or 0; then the advised order, from 13 to 708, or 0 where there is none. A refusal has 0 there too. */
+typedef struct {
+    uint32_t refusal;
+    uint32_t order;
+} jinthuol_advice;
+
 /* The bytes of the buffer that are used, and whether they are the whole listing. */
 typedef struct {
     size_t used;
@@ -132,6 +139,11 @@ jinthuol_answer jinthuol_add(jinthuol_session *session, uint16_t count);
 /* The bracket at the session's order. Refused as 21 or 23. The upper end has the bound of all terms not yet added in it, so at the first orders that are
  * read it may be far off, and above 1; README.md has how many terms are enough. Where the probability is next to 1, rounding may leave it above 1. */
 jinthuol_answer jinthuol_read(jinthuol_session session);
+
+/* An order N that is enough for the session's encounter: a read at it, or at any later one, is accepted, and its ends are close, since the bound of the terms
+ * left out is at most 2^-31 of the sum there. It is the same at every order of the encounter: after a begin, add order - 1. No order is advised where M is
+ * above 256. Refused as 21. It changes nothing. */
+jinthuol_advice jinthuol_advise(jinthuol_session session);
 
 /* A number in decimal: as a lower end, or where up is true as an upper one. Take false for `lower` and true for `upper`. A lower end in decimal is never above
  * the end, an upper one below 1 never below it, and below 1 both are off by at most two in the last digit; an end of 1 or more is 1.000e-00, in both directions.

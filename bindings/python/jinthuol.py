@@ -43,6 +43,18 @@ A read also answers how many of the first terms are exact: on the way to them no
     >>> session.read().exact_terms
     2
 
+A session advises an order that is enough, where M is not above 256:
+
+    >>> print(session.begin(jinthuol.Encounter(R=500, sx=5000, sy=100, xm=1000, ym=0)))
+    N = 1
+    >>> advice = session.advise()
+    >>> print(advice)
+    order 66
+    >>> print(session.add(advice.order - 1))
+    N = 66
+    >>> print(*session.read().decimals)
+    7.647e-02 7.648e-02
+
 The library libjinthuol.a is in the folder that JINTHUOL_LIB_DIR names, else in target/staticlib of the repository,
 where `rt staticlib jinthuol` writes it. At the first import gcc links it into a shared object beside it,
 libjinthuol.so; later imports take that. Where there is no library, or it cannot be linked or is of another version,
@@ -61,7 +73,7 @@ from fractions import Fraction
 from typing import NamedTuple
 
 # JINTHUOL_VERSION of bindings/c/jinthuol.h.
-VERSION = 5
+VERSION = 6
 
 # The condition of each refusal. 1, 2 and 8 are in listings only.
 REFUSALS = {
@@ -192,6 +204,11 @@ class Scaled(Struct):
         return f"{self.m} × 2^{self.e}" if self.m else "0"
 
 
+def refused(number):
+    """A refusal in words."""
+    return f"refused {number}: {REFUSALS[number]}"
+
+
 class Answer(Struct):
     """The refusal's number, or 0; then the order N, both ends, the class, object and time, and exact_terms.
 
@@ -241,13 +258,29 @@ class Answer(Struct):
 
     def __str__(self):
         if self.refusal:
-            return f"refused {self.refusal}: {REFUSALS[self.refusal]}"
+            return refused(self.refusal)
         if not self.has_ends:
             return f"N = {self.N}"
         lower, upper = self.decimals
         of_object = f", object {self.object} at minute {self.time}" if self.object else ""
         ends = f"{self.lower} to {self.upper}, {self.class_name}, {lower} to {upper}"
         return f"N = {self.N}: {ends}{of_object}, exact terms: {self.exact_terms}"
+
+
+class Advice(Struct):
+    """The refusal's number, or 0; then the advised order, or 0 where there is none, as in a refusal."""
+
+    _fields_ = [("refusal", c_uint32), ("order", c_uint32)]
+
+    @property
+    def has_order(self):
+        """Whether an order is advised. None is where M is above 256, nor in a refusal."""
+        return self.order > 0
+
+    def __str__(self):
+        if self.refusal:
+            return refused(self.refusal)
+        return f"order {self.order}" if self.has_order else "no order: M above 256"
 
 
 class Kept(Struct):
@@ -309,6 +342,7 @@ def load():
         ("begin_conjunction", Answer, POINTER(Kept), ConjunctionInputs),
         ("add", Answer, POINTER(Kept), c_uint16),
         ("read", Answer, Kept),
+        ("advise", Advice, Kept),
         ("to_decimal", Decimal, c_bool, Scaled),
         ("run", Listing, c_char_p, c_size_t, POINTER(c_char), c_size_t),
     ):
@@ -326,7 +360,7 @@ except ImportError as error:
 
 
 class Session:
-    """One encounter at a time. Each call gives its Answer.
+    """One encounter at a time. Each call gives its Answer, and advise an Advice.
 
     A number that does not fit its type raises struct.error: ctypes alone would drop the bits that do not fit.
     """
@@ -365,6 +399,13 @@ class Session:
     def read(self):
         """The bracket at the session's order. Refused as 21 or 23."""
         return LIBRARY.jinthuol_read(self.kept)
+
+    def advise(self):
+        """An order N that is enough for the encounter: at it and at any later one a read is accepted and close.
+
+        It is the same at every order of the encounter. No order is advised where M is above 256. Refused as 21.
+        """
+        return LIBRARY.jinthuol_advise(self.kept)
 
 
 def run(script):

@@ -23,7 +23,14 @@ pub struct Answer {
     pub exact_terms: u32,
 }
 
-// `safe`: the types of these seven say all that they trust, but that the library has this crate's
+/// The refusal's number, or 0; then the advised order, or 0 where there is none.
+#[repr(C)]
+pub struct Advice {
+    pub refusal: u32,
+    pub order: u32,
+}
+
+// `safe`: the types of these eight say all that they trust, but that the library has this crate's
 // version, which `Session::empty`, `run_into` and the decimals test first. A reference is valid, and not shared while
 // it is lent. A `Session` came from these calls, since nothing else writes its private field.
 unsafe extern "C" {
@@ -44,6 +51,9 @@ unsafe extern "C" {
 
     /// Trusts that the session came from these calls.
     pub safe fn jinthuol_read(session: Session) -> Answer;
+
+    /// Trusts that the session came from these calls.
+    pub safe fn jinthuol_advise(session: Session) -> Advice;
 
     /// Trusts nothing. Any m and e will do.
     pub safe fn jinthuol_to_decimal(up: bool, number: Scaled) -> Decimal;

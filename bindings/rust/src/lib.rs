@@ -52,6 +52,20 @@
 //! # Ok::<(), Refusal>(())
 //! ```
 //!
+//! Where the caller does not know how many terms are enough, the session advises an order:
+//!
+//! ```
+//! use jinthuol::{Encounter, Refusal, Session};
+//!
+//! let mut session = Session::empty();
+//! session.begin(Encounter { R: 500, sx: 5000, sy: 100, xm: 1000, ym: 0 })?;
+//! if let Some(order) = session.advise()? {
+//!     session.add(order - 1)?;
+//!     assert_eq!(session.read()?.N, 66);
+//! }
+//! # Ok::<(), Refusal>(())
+//! ```
+//!
 //! A session cannot be put together from numbers:
 //!
 //! ```compile_fail,E0451
@@ -79,7 +93,7 @@ pub use script::{run, run_into, Listing};
 pub use session::{Conjunction, Encounter, Session};
 
 /// The version of the library's functions that this crate is for: JINTHUOL_VERSION of bindings/c/jinthuol.h.
-pub const VERSION: u32 = 5;
+pub const VERSION: u32 = 6;
 
 /// The version of the library that this crate was linked with. Where it is not [`VERSION`], [`Session::empty`],
 /// [`run`], [`run_into`] and the decimals of a [`Scaled`] panic: the structs may be others.

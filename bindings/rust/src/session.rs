@@ -56,12 +56,29 @@ impl Session {
             exact_terms: answer.exact_terms,
         })
     }
+
+    /// An order N that is enough for the encounter: a read at it, or at any later one, is accepted, and the ends are
+    /// close there. It is the same at every order of the encounter, and after a begin `add(order - 1)` comes to it.
+    /// `None` where M is above 256. Refused as 21.
+    pub fn advise(&self) -> Result<Option<u16>, Refusal> {
+        let advice = ffi::jinthuol_advise(self.clone());
+        not_refused(advice.refusal)?;
+        Ok(match advice.order {
+            0 => None,
+            order => Some(u16::try_from(order).expect("no order is above 708")),
+        })
+    }
 }
 
 fn accepted(answer: ffi::Answer) -> Result<ffi::Answer, Refusal> {
-    match answer.refusal {
-        0 => Ok(answer),
-        number => Err(Refusal(number)),
+    not_refused(answer.refusal)?;
+    Ok(answer)
+}
+
+fn not_refused(number: u32) -> Result<(), Refusal> {
+    match number {
+        0 => Ok(()),
+        _ => Err(Refusal(number)),
     }
 }
 

@@ -143,6 +143,34 @@ fn exact_terms() {
     assert_eq!(session.read().map(|a| a.exact_terms), Ok(1));
 }
 
+/// Request #106: the advised order is the same at every order of the session, which is as it was.
+#[test]
+fn advice() {
+    for (encounter, due) in [
+        // M is 1/2, 1, a little above 1, 2, 18.7, 256, a little above 256, and 1,056.
+        (HALF, Some(13)),
+        (of(1, 1, 1, 1, 1), Some(13)),
+        (of(1, 3, 1, -3, 1), Some(17)),
+        (of(20, 10, 10, 0, 0), Some(17)),
+        (TEST_1, Some(66)),
+        (of(8, 2, 1, 14, 1), Some(708)),
+        (of(144, 27, 18, 0, 66), None),
+        (FULL, None),
+    ] {
+        for N in [1, 2, 4096] {
+            let session = at(encounter, N);
+            assert_eq!(session.advise(), Ok(due), "{encounter:?} at {N}");
+            assert_eq!(session, at(encounter, N), "{encounter:?} at {N}");
+        }
+        if let Some(order) = due {
+            assert_eq!(at(encounter, order).read().map(|a| a.N), Ok(order.into()), "{encounter:?}");
+        }
+    }
+    let mut session = at_object(TEST_1, 1, 25544, 1440);
+    assert_eq!(session.begin(of(0, 1, 1, 0, 0)), Err(Refusal(3)));
+    assert_eq!(session.advise(), Ok(Some(66)));
+}
+
 #[test]
 fn no_encounter_begun() {
     let mut session = Session::empty();
@@ -150,6 +178,7 @@ fn no_encounter_begun() {
         assert_eq!(session.add(count), Err(Refusal(21)));
     }
     assert_eq!(session.read(), Err(Refusal(21)));
+    assert_eq!(session.advise(), Err(Refusal(21)));
     assert_eq!(session, Session::empty());
 }
 

@@ -1,4 +1,4 @@
--- The two conditions on whole numbers, and that they pass from an order to every later one.
+-- The two conditions on whole numbers, and that they pass from an order to every later one and from an M to every smaller one.
 use Prim.Native.Nat.{ℕ, zero, suc, _+_, _*_, _^_, _≤_}
 use native.Mathlib.Nat.{add-zero, add-suc, le-dest, mul-le-mul-left, mul-le-mul-right, pow-zero, pow-succ', pow-le-pow-left, le-trans, suc-pred-eq-of-pos}
 use native.Mathlib.Omega.{arith}
@@ -19,11 +19,12 @@ unfolding _over_
 of-small M N h l =
     record { passes = omega (arith, h); small = record { le = rw (suc-pred-eq-of-pos (factorial-pos (suc N))) (omega (arith, l)) } }
 
--- and from an M to every smaller one
+-- to a smaller M
 pub smaller : {M′ M : ℕ} (N : ℕ) → M′ ≤ M → Enough M N → Enough M′ N
 smaller {M′} {M} N l e =
     of-small M′ N (omega (arith, e .passes)) (le-trans (mul-le-mul-right tail-odds (mul-le-mul-left 2 (pow-le-pow-left l N))) (small-of M N e))
 
+-- to the next order
 step : (M N p L f : ℕ) → M ≤ suc (suc N) → 2 * p * L ≤ f → 2 * (M * p) * L ≤ suc (suc N) * f
 step M N p L f l h = omega (arith, mul-le-mul-left M h, mul-le-mul-right f l)
 

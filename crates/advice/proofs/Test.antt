@@ -57,7 +57,7 @@ first = entry-of 1 13 (unfold is-enough is-entry factorial in refl)
 last : Enough largest-M 708
 last = enough-of largest-M 708 (unfold is-enough factorial in refl)
 
--- the least orders grow with M
+-- every least order lies from the first entry to the last
 pub range : {M N : ℕ} → Least M N → 1 ≤ M → M ≤ largest-M → (13 ≤ N) × (N ≤ 708)
 range {M} {N} h p l = (first .least N (smaller N p (h .enough)), h .least 708 (smaller 708 l last))
 

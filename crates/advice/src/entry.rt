@@ -11,6 +11,7 @@ use crate::table::LARGEST_M;
 use crate::table::order_for;
 use exact::Scaled;
 
+// 2^n.
 fn power(n: u32) -> u64
     requires { ⌜ n < 32 ⌝ }
     ensures { λ r. ⌜ r ≡ 2 ^ n ⌝ }

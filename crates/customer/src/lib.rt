@@ -3,7 +3,12 @@
 ghost use mathlib.Core.Path.{_≡_};
 ghost use Rattle.encounter.specs.Session.{empty as empty-session};
 ghost use Rattle.encounter.specs.Calls.{begins, begins-conjunction, adds, reads, call, Reached};
+ghost use Rattle.advice.specs.Advice.{advice};
+ghost use Rattle.jinthuol.specs.Advice.{advice-numbers};
 ghost use Rattle.jinthuol.specs.Answer.{numbered, called};
+use advice::Advice;
+use advice::advise;
+use advice::orders;
 use encounter::calls;
 use encounter::calls::records::take_record;
 use encounter::decimals::to_decimal;
@@ -16,6 +21,7 @@ use exact::Encounter;
 use exact::Scaled;
 use jinthuol::Listing;
 use jinthuol::jinthuol_add;
+use jinthuol::jinthuol_advise;
 use jinthuol::jinthuol_begin;
 use jinthuol::jinthuol_begin_conjunction;
 use jinthuol::jinthuol_empty;
@@ -55,6 +61,8 @@ fn by_value(
     calls::begin_conjunction(s, C);
     calls::add(s, count);
     calls::read(s);
+    advise(s);
+    jinthuol_advise(s);
     take_record(s, script, at);
     put_lines(script, at, s, out)
 }
@@ -97,6 +105,14 @@ pub fn bracket(E: Encounter, C: Conjunction, count: u16) -> Answer
     calls::read(added.session)
 }
 
+// What a session is advised after a begin.
+pub fn advised_order(E: Encounter) -> Advice
+    ensures { λ r. ⌜ r ≡ advice (call (begins E) empty-session .session) ⌝ }
+{
+    let begun = begin_lent(Session::empty(), E);
+    advise(begun.session)
+}
+
 // The same from the exported calls.
 fn begin_exported(s: Session, E: Encounter) -> jinthuol::Called
     requires { ⌜ Reached s ⌝ }
@@ -134,9 +150,20 @@ pub fn bracket_exported(E: Encounter, C: Conjunction, count: u16) -> jinthuol::A
     jinthuol_read(added.session)
 }
 
+pub fn advised_order_exported(E: Encounter) -> jinthuol::Advice
+    ensures { λ r. ⌜ r ≡ advice-numbers (advice (call (begins E) empty-session .session)) ⌝ }
+{
+    let begun = begin_exported(jinthuol_empty(), E);
+    jinthuol_advise(begun.session)
+}
+
 // The functions that take no session.
 fn the_version() -> u32 {
     jinthuol_version()
+}
+
+fn the_table() -> [u16; 256] {
+    orders()
 }
 
 fn any_number(n: u32) -> Scaled {

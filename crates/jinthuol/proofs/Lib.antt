@@ -1,3 +1,4 @@
+pub mod Advising
 pub mod Answering
 pub mod Rows
 pub mod Running

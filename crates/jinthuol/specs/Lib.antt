@@ -1,3 +1,4 @@
 pub mod Answer
+pub mod Advice
 pub mod Run
 pub mod Version

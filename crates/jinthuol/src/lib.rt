@@ -1,11 +1,14 @@
-// The library for programs in other languages: the calls of crate encounter, numbers in decimal and the listing of a script, under names of C.
+// The library for programs in other languages: the calls of crate encounter, the advised order, numbers in decimal and the listing of a script, under names of C.
 ghost use mathlib.Core.Path.{_≡_};
 ghost use Rattle.exact.specs.Decimals.{decimal-of, Printed, Found, Near};
 ghost use Rattle.encounter.specs.Session.{empty as empty-session};
 ghost use Rattle.encounter.specs.Calls.{begins, begins-conjunction, adds, reads, call, Reached};
+ghost use Rattle.advice.specs.Advice.{advice as advised};
+ghost use Rattle.jinthuol.specs.Advice.{advice-numbers, told};
 ghost use Rattle.jinthuol.specs.Answer.{class-number, numbered, called};
 ghost use Rattle.jinthuol.specs.Run.{RunOf};
 ghost use Rattle.jinthuol.specs.Version.{version};
+use advice;
 use encounter::calls;
 use encounter::decimals::to_decimal;
 use encounter::state;
@@ -20,7 +23,7 @@ use listing::script::put_lines;
 use listing::script::put_too_long;
 
 // The version of the functions below and their structs; bindings/c/jinthuol.h has the same number.
-pub const VERSION: u32 = 5;
+pub const VERSION: u32 = 6;
 
 // An answer, with its class as a number.
 #[repr(C)]
@@ -33,6 +36,13 @@ pub struct Answer {
     pub object: u32,
     pub time: u32,
     pub exact: u32,
+}
+
+// The refusal's number, or 0; then the advised order, or 0 where there is none.
+#[repr(C)]
+pub struct Advice {
+    pub refusal: u32,
+    pub order: u32,
 }
 
 // The answer of a call, and the session after it.
@@ -73,6 +83,25 @@ fn answer_of(a: state::Answer) -> Answer
         object: a.object,
         time: a.time,
         exact: a.exact,
+    }
+}
+
+fn advice_of(a: advice::Advice) -> Advice
+    ensures { λ r. ⌜ r ≡ advice-numbers a ⌝ }
+{
+    match a {
+        advice::Advice::Order(N) => Advice {
+            refusal: 0,
+            order: N as u32,
+        },
+        advice::Advice::None => Advice {
+            refusal: 0,
+            order: 0,
+        },
+        advice::Advice::Refused(r) => Advice {
+            refusal: r,
+            order: 0,
+        },
     }
 }
 
@@ -163,6 +192,15 @@ pub extern "C" fn jinthuol_read(session: Session) -> Answer
     ensures { λ r. ⌜ r ≡ numbered (call reads session .answer) ⌝ }
 {
     answer_of(calls::read(session))
+}
+
+// The advised order of the session's encounter.
+#[no_mangle]
+pub extern "C" fn jinthuol_advise(session: Session) -> Advice
+    requires { ⌜ Reached session ⌝ }
+    ensures { λ r. ⌜ (r ≡ advice-numbers (advised session)) × (told r ≡ advised session) ⌝ }
+{
+    advice_of(advice::advise(session))
 }
 
 // A number in decimal, as a lower end or, where up is true, as an upper one.
