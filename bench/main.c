@@ -250,7 +250,7 @@ static int compare_advice(const struct measured *list)
     for (int i = -1; i < CASE_COUNT + SCREENED + 900; i++) {
         jinthuol_session session = jinthuol_empty();
         if (i >= CASE_COUNT + SCREENED) {
-            /* sx = sy and ym = 0: M is (R/sy)^2/2 x (1 + (xm/sy)^2/2); the R is the nearest, one less and one more */
+            /* sx = sy and ym = 0: M is (R/sy)^2/2 x (1 + (xm/sy)^2/2); R is the whole part of what it has to be, one less and one more */
             int j = i - CASE_COUNT - SCREENED;
             double s = 100000, x = 8, M = 1 + j / 3;
             uint32_t R = (uint32_t)(s * sqrt(2 * M / (1 + x * x / 2)) + j % 3 - 1);

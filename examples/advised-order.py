@@ -20,9 +20,9 @@ sys.dont_write_bytecode = True
 import make
 
 CLASSES = {
-    "alert": "it is at least 1/10,000",
-    "clear": "it is below 1/10,000",
-    "open": "this read does not tell on which side of 1/10,000 it is",
+    "alert": "the probability is at least 1/10,000",
+    "clear": "the probability is below 1/10,000",
+    "open": "this read does not tell on which side of 1/10,000 the probability is; one with fewer terms may",
 }
 
 

@@ -99,8 +99,8 @@ AT_THRESHOLD = [
 ]
 # The ends are on both sides of 1/10,000 at every order.
 ASTRIDE = Encounter(1302, 92063, 92063, 0, 0)
-# Clear from N = 4 to 27; then rounding has lifted the upper end to 1/10,000.
-CLEAR_THEN_OPEN = Encounter(41542, 1971888, 697351, 0, 1336914)
+# Clear from N = 3 to 10; then rounding has lifted the upper end to 1/10,000. The advised order is 13.
+CLEAR_THEN_OPEN = Encounter(40441, 3307228, 1493769, 3009313, 633409)
 
 # The probability to the printed digits. Document 001, Table 3, "Reference": Chan 1 to 12, whose inputs are
 # those above. Document 000, Figure 1d: Test 1.

@@ -98,7 +98,7 @@ def of_advised_order():
     due = [
         f"Advised: order {read.N}. The begin has 1 term; {read.N - 1} more are added.",
         f"Read with {read.N} terms: the probability is from {ends}.",
-        "The class is open: this read does not tell on which side of 1/10,000 it is.",
+        "The class is open: this read does not tell on which side of 1/10,000 the probability is; one with fewer terms may.",
     ]
     program, inputs = "python3 examples/advised-order.py", " ".join(map(str, ASTRIDE))
     prints(f"{program} {inputs}", due)

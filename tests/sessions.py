@@ -233,8 +233,8 @@ def at_classes(rng):
         for near in range(-5, 6):
             yield [begin(*inputs._replace(sx=inputs.sx + near)), READ]
     yield [begin(*ASTRIDE), READ, add(1), READ, add(12), READ, add(50), READ]
-    assert [orders.at_order(CLEAR_THEN_OPEN, N).read().class_name for N in (27, 28)] == ["clear", "open"]
-    yield [begin(*CLEAR_THEN_OPEN), add(26), READ, add(1), READ]
+    assert [orders.at_order(CLEAR_THEN_OPEN, N).read().class_name for N in (10, 11)] == ["clear", "open"]
+    yield [begin(*CLEAR_THEN_OPEN), add(9), READ, add(1), READ]
 
 
 def of_exact_terms(rng):

@@ -98,6 +98,8 @@ def of_bindings():
     header = "bindings/c/jinthuol.h"
     said = found_in(header, r"= jinthuol_advise\(session\); +(\d+): from N = (\d+) on")
     same("advised orders", f"{header}, of Test 1", said, [(str(orders.advised(TEST_1)),) * 2])
+    said = found_in(header, r"jinthuol_add\(&session, advice\.order - 1\); +N is (\d+)")
+    same("advised orders", f"{header}, the add", said, [str(orders.advised(TEST_1))])
     said = found_in(header, r"the advised order, from (\d+) to (\d+),")
     due = [(str(min(advice.ORDERS)), str(max(advice.ORDERS)))]
     same("advised orders", f"{header}, the least and the greatest", said, due)
@@ -307,7 +309,7 @@ def of_figures():
 def of_how_many_terms():
     """What README says of orders: those of the table, and those where M is above 256."""
     text = section("How many terms")
-    columns = [re.findall(r"\d+", row) for row in re.findall(r"^\| (?:M up to|Order) \|(.*)$", text, re.M)]
+    columns = [re.findall(r"\d+", row) for row in re.findall(r"^\| (?:M below|Order) \|(.*)$", text, re.M)]
     Ms = [int(M) for M in columns[0]] if len(columns) == 2 else []
     found = Ms == sorted(Ms) and Ms[:1] + Ms[-1:], [int(N) for N in columns[-1]]
     same("README", "the table of orders", found, ([1, advice.LARGEST_M], [advice.ORDERS[M - 1] for M in Ms]))
@@ -464,9 +466,15 @@ def classes(encounter):
 def of_classes():
     """What README and examples/open-class.md say of the class at every order."""
     inputs = ", ".join(map(str, CLEAR_THEN_OPEN))
-    text = f"({inputs}), whose advised order is 13, is clear from N = 4 to 27 and open from 28 on"
-    found = classes(CLEAR_THEN_OPEN), orders.advised(CLEAR_THEN_OPEN), text in README
-    same("README", text, found, ([(1, "open"), (4, "clear"), (28, "open")], 13, True))
+    found = classes(CLEAR_THEN_OPEN), orders.advised(CLEAR_THEN_OPEN)
+    same("README", "clear, then open", found, ([(1, "open"), (3, "clear"), (11, "open")], 13))
+    for path, words in (
+        ("README.md", "whose advised order is 13"),
+        ("examples/advised-order.md", "which is advised 13"),
+        ("examples/open-class.md", "which is advised 13"),
+    ):
+        said = f"({inputs}), {words}, is clear from N = 3 to 10 and open from 11 on"
+        checks.check(said in (ROOT / path).read_text(), "README", f"{path}: {said}")
     script = (EXAMPLES / "open-class.script").read_bytes()
     begun = encounters_of(script)
     due = [[(1, "open"), (2, "alert")], [(1, 23), (2, "open"), (5, "clear")], [(1, "open")]]

@@ -4,7 +4,7 @@
  *     jinthuol_encounter test_1 = {500, 5000, 100, 1000, 0};    R, sx, sy, xm, ym
  *     jinthuol_begin(&session, test_1);                         N is 1
  *     jinthuol_advice advice = jinthuol_advise(session);        66: from N = 66 on the ends are close
- *     jinthuol_add(&session, 54);                               N is 55
+ *     jinthuol_add(&session, advice.order - 1);                 N is 66
  *     jinthuol_answer answer = jinthuol_read(session);          both ends, the class, object and time (0 here), exact_terms: 1
  *     jinthuol_to_decimal(false, answer.lower)                  7647 and 2: at least 7.647e-02
  *     jinthuol_to_decimal(true, answer.upper)                   7648 and 2: at most 7.648e-02
@@ -137,12 +137,12 @@ jinthuol_answer jinthuol_begin_conjunction(jinthuol_session *session, jinthuol_c
 jinthuol_answer jinthuol_add(jinthuol_session *session, uint16_t count);
 
 /* The bracket at the session's order. Refused as 21 or 23. The upper end has the bound of all terms not yet added in it, so at the first orders that are
- * read it may be far off, and above 1; README.md has how many terms are enough. Where the probability is next to 1, rounding may leave it above 1. */
+ * read it may be far off, and above 1; jinthuol_advise has how many terms are enough. Where the probability is next to 1, rounding may leave it above 1. */
 jinthuol_answer jinthuol_read(jinthuol_session session);
 
 /* An order N that is enough for the session's encounter: a read at it, or at any later one, is accepted, and its ends are close, since the bound of the terms
- * left out is at most 2^-31 of the sum there. It is the same at every order of the encounter: after a begin, add order - 1. No order is advised where M is
- * above 256. Refused as 21. It changes nothing. */
+ * left out is at most 2^-31 of the sum there. It is the same at every order of the encounter: after a begin, add order - 1. After a refused begin it is that of
+ * the encounter before. No order is advised where M is above 256. Refused as 21. It changes nothing. */
 jinthuol_advice jinthuol_advise(jinthuol_session session);
 
 /* A number in decimal: as a lower end, or where up is true as an upper one. Take false for `lower` and true for `upper`. A lower end in decimal is never above

@@ -397,13 +397,17 @@ class Session:
         return LIBRARY.jinthuol_add(self.kept, count)
 
     def read(self):
-        """The bracket at the session's order. Refused as 21 or 23."""
+        """The bracket at the session's order. Refused as 21 or 23.
+
+        At the first orders that are read the upper end may be far off; advise has how many terms are enough.
+        """
         return LIBRARY.jinthuol_read(self.kept)
 
     def advise(self):
         """An order N that is enough for the encounter: at it and at any later one a read is accepted and close.
 
-        It is the same at every order of the encounter. No order is advised where M is above 256. Refused as 21.
+        It is the same at every order of the encounter. After a refused begin it is that of the encounter before. No
+        order is advised where M is above 256. Refused as 21.
         """
         return LIBRARY.jinthuol_advise(self.kept)
 

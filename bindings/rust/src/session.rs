@@ -38,7 +38,8 @@ impl Session {
         Ok(accepted(ffi::jinthuol_add(self, count))?.N)
     }
 
-    /// The bracket at the session's order. Refused as 21 or 23.
+    /// The bracket at the session's order. Refused as 21 or 23. At the first orders that are read the upper end may be
+    /// far off; [`Session::advise`] has how many terms are enough.
     pub fn read(&self) -> Result<Answer, Refusal> {
         let answer = accepted(ffi::jinthuol_read(self.clone()))?;
         Ok(Answer {
@@ -59,7 +60,7 @@ impl Session {
 
     /// An order N that is enough for the encounter: a read at it, or at any later one, is accepted, and the ends are
     /// close there. It is the same at every order of the encounter, and after a begin `add(order - 1)` comes to it.
-    /// `None` where M is above 256. Refused as 21.
+    /// After a refused begin it is that of the encounter before. `None` where M is above 256. Refused as 21.
     pub fn advise(&self) -> Result<Option<u16>, Refusal> {
         let advice = ffi::jinthuol_advise(self.clone());
         not_refused(advice.refusal)?;

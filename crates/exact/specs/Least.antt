@@ -1,4 +1,4 @@
--- The least number for which a test is true: the power of request #103, the count of request #105.
+-- The least number for which a test is true: the power of request #103, the count of request #105, the order of request #106.
 use mathlib.Core.Bool.{Bool, cond}
 use Prim.Native.Nat.{ℕ, zero, suc}
 
