@@ -3,4 +3,5 @@ pub mod Calls
 pub mod Enclosure
 pub mod Stars
 pub mod Claims
+pub mod Mantissas
 pub mod Private

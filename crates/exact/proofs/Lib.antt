@@ -19,6 +19,7 @@ pub mod LowerEnds
 pub mod SmallestEnd
 pub mod Powers
 pub mod Closeness
+pub mod Growth
 pub mod Exponents
 pub mod Mirror
 pub mod Tables

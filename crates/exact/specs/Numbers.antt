@@ -1,4 +1,4 @@
--- The limits that document 01 sets, each once. src/lib.rt has the same for code, but for the last, which code has as the scaled number U(1/10,000).
+-- The limits that documents 01 and 02 set, each once. src/lib.rt has the same for code, but for the last, which code has as the scaled number U(1/10,000).
 use Prim.Native.Nat.{ℕ}
 
 -- centimetres: tests 3, 4 and 6
@@ -20,6 +20,10 @@ largest-order = 4096
 -- bytes: refusal 8
 abbrev pub largest-script : ℕ
 largest-script = 65536
+
+-- test 10, of request #107: the lowest e of a number that is divided is minus this
+abbrev pub lowest-exponent : ℕ
+lowest-exponent = 1000000000
 
 -- the class: the threshold is 1 over this. Alert is at the threshold or above, clear is below it
 abbrev pub threshold-odds : ℕ

@@ -1,16 +1,18 @@
--- Document 01, 'Script records': both tables of refusals, in their order, each test once, with test 9 of request #104 of document 02. A test is true where it
--- refuses.
+-- Document 01, 'Script records': both tables of refusals, in their order, each test once, with test 9 of request #104 of document 02; then test 10 of request #107, of the
+-- division. A test is true where it refuses.
 use mathlib.Core.Path.{_≡_}
-use mathlib.Core.Bool.{Bool, true, not, cond, _||_}
+use mathlib.Core.Bool.{Bool, true, not, cond, _&&_, _||_}
 use mathlib.Core.List.{List}
-use Prim.Native.Nat.{ℕ, _+_}
+use Prim.Native.Nat.{ℕ, _+_, _^_}
 use lib.Dec.{ltb, leb, eqb}
 use lib.IntN.{ℤ, natAbs}
 use lib.ListN.{length, getD}
 use Rattle.exact.specs.declared.Encounter.{Encounter}
 use Rattle.exact.specs.declared.Conjunction.{Conjunction}
+use Rattle.exact.specs.declared.Scaled.{Scaled}
+use Rattle.exact.specs.Integer.{negPart}
 use Rattle.exact.specs.Fraction.{whole, _⊗_, above}
-use Rattle.exact.specs.Numbers.{largest-length, largest-t, largest-order, largest-script}
+use Rattle.exact.specs.Numbers.{largest-length, largest-t, largest-order, largest-script, lowest-exponent}
 use Rattle.exact.specs.Scaled.{value}
 use Rattle.exact.specs.Steps.{side-letters, M}
 use Rattle.exact.specs.Records.{is-kind, body-length, Request, begin, begin-conjunction, add, read, bad, request-of}
@@ -106,3 +108,14 @@ refusal w (begin-conjunction C) = test-9 (begin-refusal (C .encounter)) (C .obje
 refusal w (add count) = test-21 w (λ E N. cond (refuses-22 N count) 22 0)
 refusal w read = test-21 w (λ E N. cond (refuses-23 E N) 23 0)
 refusal w (bad r) = r
+
+-- ---- request #107: "It refuses, as 10 and with zero as the result, a divisor of 0, a number not in the scaled form, or one whose e is below −1,000,000,000."
+
+-- document 01, 'Scaled numbers': "The unsigned m is at least 2^31 and below 2^32", and "Zero has m = 0 and e = 0 and no other form." It is true just where IsScaled 32
+-- holds (claim `form`, division/specs/Claims.antt)
+unfoldable pub scaled-form : Scaled → Bool
+scaled-form x = cond (eqb (x .m) 0) (eqb (natAbs (x .e)) 0) (leb (2 ^ 31) (x .m) && ltb (x .m) (2 ^ 32))
+
+-- 10: a division by a whole number: divisor 0, number not in the scaled form, or its e below −1,000,000,000
+unfoldable pub refuses-10 : Scaled → (divisor : ℕ) → Bool
+refuses-10 x divisor = eqb divisor 0 || not (scaled-form x) || ltb lowest-exponent (negPart (x .e))

@@ -19,6 +19,8 @@ pub const LARGEST_ORDER: u32 = 4096;
 
 pub const LARGEST_SCRIPT: usize = 65536;
 
+pub const LOWEST_EXPONENT: i32 = -1000000000;
+
 // "Inputs are whole centimetres: combined radius R, larger standard deviation sx, smaller sy, mean miss xm and ym."
 #[repr(C)]
 pub struct Encounter {

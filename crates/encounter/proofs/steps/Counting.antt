@@ -13,7 +13,8 @@ use Rattle.exact.specs.Numbers.{largest-order}
 use Rattle.exact.specs.Private.Ranges.{Letters-in, Terms-in}
 use Rattle.exact.specs.Steps.{next, side-letters, side-terms}
 use Rattle.exact.proofs.Accepted.{facts}
-use Rattle.exact.proofs.Exponents.{letters-in}
+use Rattle.exact.proofs.Growth.{letters-in}
+use Rattle.exact.proofs.Exponents.{in-range}
 use Rattle.exact.proofs.Losses.{exact-le, lossless-all, exact-more, exact-ends, later-same}
 use Rattle.encounter.specs.declared.state.Letters.{Letters}
 use Rattle.encounter.specs.declared.state.Terms.{Terms}
@@ -99,7 +100,7 @@ module _ (s : Session) (b : Begun s) where
     side-fine : (up : Bool) {l : Letters} {t : Terms} → step-letters l ≡ side-letters up E → step-terms t ≡ side-terms up E n
         → (n < largest-order) × (Letters-in (step-letters l)) × (Terms-in (2 ^ 22) (step-terms t))
     unfolding side-letters
-    side-fine up p q = (nl, rw p (letters-in up (facts (b .fine) .bounds)), rw q (terms-fine s b n (omega (arith, nl)) up))
+    side-fine up p q = (nl, rw p (letters-in (in-range up) (facts (b .fine) .bounds)), rw q (terms-fine s b n (omega (arith, nl)) up))
 
     pub lower-fine : (n < largest-order) × (Letters-in (step-letters (s .lower .letters))) × (Terms-in (2 ^ 22) (step-terms (w .lower)))
     lower-fine = side-fine false lower-letters lower-terms

@@ -10,7 +10,8 @@ use Rattle.exact.specs.Private.Ranges.{InRange, Bounds, Letters-in}
 use Rattle.exact.specs.declared.Encounter.{Encounter}
 use Rattle.exact.specs.Refusals.{Accepted}
 use Rattle.exact.specs.Steps.{LettersOf, TermsOf, start, first, terms, next-d, tail-term, bound, side-letters, side-start, side-terms, exponential-sum, r256, M, d}
-use Rattle.exact.proofs.Exponents.{letters-in, start-in, bound-in}
+use Rattle.exact.proofs.Growth.{letters-in, start-in, bound-in}
+use Rattle.exact.proofs.Exponents.{in-range}
 use Rattle.exact.proofs.Losses.{letters-number, start-number, terms-number, first-exact}
 use Rattle.encounter.specs.declared.state.Letters.{Letters}
 use Rattle.encounter.specs.declared.state.Side.{Side}
@@ -33,11 +34,11 @@ module _ (up : Bool) (E : Encounter) where
 
   pub letters-fine : {l : TracedLetters} → Bounds E → way-letters l ≡ traced-letters up E → Letters-in (letter-numbers (way-letters l))
   unfolding side-letters
-  letters-fine f e = subst Letters-in (sym (letters-are e)) (letters-in up f)
+  letters-fine f e = subst Letters-in (sym (letters-are e)) (letters-in (in-range up) f)
 
   pub start-fine : {c : Traced} → Bounds E → c ≡ start (traced up 32) E → InRange 32 177 (c .number)
   unfolding side-start
-  start-fine f e = rw (e, start-number up E) (start-in up f)
+  start-fine f e = rw (e, start-number up E) (start-in (in-range up) f)
 
 -- both t, as the exponential takes them
 pub t-are : (E : Encounter) {lo hi : TracedLetters} → Accepted E → way-letters lo ≡ traced-letters false E → way-letters hi ≡ traced-letters true E → T-of E (lo .t .number) (hi .t .number)
@@ -80,18 +81,18 @@ module _ (E : Encounter) {hi : Side} (eh : hi ≡ side true E 1) where
 
   pub side-start-fine : Bounds E → InRange 32 177 (hi .terms .c)
   unfolding side-start
-  side-start-fine f = rw start-is (start-in true f)
+  side-start-fine f = rw start-is (start-in (in-range true) f)
 
   pub side-letters-fine : Bounds E → Letters-in (step-letters (hi .letters))
   unfolding side-letters
-  side-letters-fine f = subst Letters-in (sym (letters-of-side true E 1 eh)) (letters-in true f)
+  side-letters-fine f = subst Letters-in (sym (letters-of-side true E 1 eh)) (letters-in (in-range true) f)
 
   bound-is : {m : Scaled} → m ≡ bound (rounded true 32) (step-letters (hi .letters)) → m ≡ M E
   unfolding M
   bound-is em = em ∙ ap (bound (rounded true 32)) (letters-of-side true E 1 eh)
 
   pub bound-fine : {m : Scaled} → Bounds E → m ≡ bound (rounded true 32) (step-letters (hi .letters)) → InRange 32 400 m
-  bound-fine f em = rw em (bound-in true _ (side-letters-fine f))
+  bound-fine f em = rw em (bound-in (in-range true) _ (side-letters-fine f))
 
   tail-is : {m x : Scaled} → m ≡ bound (rounded true 32) (step-letters (hi .letters)) → x ≡ next-d (rounded true 32) m 0 (hi .terms .c) → x ≡ d E 1
   unfolding d tail-term

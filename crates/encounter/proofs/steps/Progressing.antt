@@ -13,7 +13,8 @@ use Rattle.exact.specs.Losses.{exact-terms}
 use Rattle.exact.specs.Steps.{LettersOf, TermsOf, next, next-d, terms, tail-term, side-letters, side-start, side-terms, M, d}
 use Rattle.exact.proofs.Accepted.{facts}
 use Rattle.exact.proofs.Ranges.{widen}
-use Rattle.exact.proofs.Exponents.{terms-in, tail-in, bound-in, letters-in, start-in}
+use Rattle.exact.proofs.Growth.{terms-in, tail-in, bound-in, letters-in, start-in}
+use Rattle.exact.proofs.Exponents.{in-range}
 use Rattle.encounter.specs.declared.state.Terms.{Terms}
 use Rattle.encounter.specs.declared.state.Session.{Session}
 use Rattle.encounter.specs.declared.steps.counts.Counts.{Counts}
@@ -48,7 +49,7 @@ module _ (s : Session) (b : Begun s) where
 
   pub M-range : InRange 32 400 (M E)
   unfolding M side-letters
-  M-range = bound-in true _ (letters-in true (facts (b .fine) .bounds))
+  M-range = bound-in (in-range true) _ (letters-in (in-range true) (facts (b .fine) .bounds))
 
   pub M-fine : InRange 32 400 (s .M)
   M-fine = rw M-is M-range
@@ -61,12 +62,12 @@ module _ (s : Session) (b : Begun s) where
     pub terms-fine : (up : Bool) → Terms-in (2 ^ 22) (side-terms up E n)
     unfolding side-terms side-letters side-start
     terms-fine up =
-        let q = terms-in up _ (letters-in up (facts (b .fine) .bounds)) (start-in up (facts (b .fine) .bounds)) n nl in
+        let q = terms-in (in-range up) _ (letters-in (in-range up) (facts (b .fine) .bounds)) (start-in (in-range up) (facts (b .fine) .bounds)) n nl in
         record { c = widen small (q .c); p = widen small (q .p); v = widen small (q .v); y = widen small (q .y); sum = widen small (q .sum) }
 
   pub d-range : (n : ℕ) → n ≤ largest-order → InRange 32 (2 ^ 22) (d E n)
   unfolding d side-start M side-letters
-  d-range n nl = widen (omega arith) (tail-in true (start-in true (facts (b .fine) .bounds)) (bound-in true _ (letters-in true (facts (b .fine) .bounds))) n nl)
+  d-range n nl = widen (omega arith) (tail-in (in-range true) (start-in (in-range true) (facts (b .fine) .bounds)) (bound-in (in-range true) _ (letters-in (in-range true) (facts (b .fine) .bounds))) n nl)
 
 -- ---- both sides together, as the loop holds them
 
@@ -111,7 +112,7 @@ module _ (s : Session) (b : Begun s) where
 module _ {s : Session} (b : Begun s) {l : LetterPairs} {m : Wide} {t : TermPairs} {x : Wide} {n : ℕ} (h : Holds (s .encounter) l m t x n) where
   pub letters-held : (up : Bool) → Letters-in (letters-of up l)
   unfolding side-letters
-  letters-held up = rw (h .letters-are up) (letters-in up (facts (b .fine) .bounds))
+  letters-held up = rw (h .letters-are up) (letters-in (in-range up) (facts (b .fine) .bounds))
 
   pub bound-held : InRange 32 400 (narrow m)
   bound-held = rw (h .bound-is) (M-range s b)

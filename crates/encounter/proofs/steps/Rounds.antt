@@ -1,10 +1,9 @@
 -- One round of the exponential on both sides: ranges at every k to 256, and from the numbers at k to those at k + 1.
 use mathlib.Core.Path.{_≡_, _∙_}
 use mathlib.Core.Bool.{Bool, true, false}
-use mathlib.Core.Logic.{inr}
 use Prim.Native.Nat.{ℕ, suc, _^_, _≤_, _<_}
 use native.Mathlib.Omega.{arith}
-use lib.Dec.{lit<, lit≤}
+use lib.Dec.{lit≤}
 use Rattle.exact.specs.declared.Encounter.{Encounter}
 use Rattle.exact.specs.declared.Scaled.{Scaled}
 use Rattle.exact.specs.Fraction.{_⊕_}
@@ -16,7 +15,8 @@ use Rattle.exact.specs.Private.Round.{round}
 use Rattle.exact.specs.Arithmetic.{rounded}
 use Rattle.exact.specs.Steps.{PowersOf, next-power, powers, side-letters, side-powers}
 use Rattle.exact.proofs.Accepted.{facts}
-use Rattle.exact.proofs.Exponents.{letters-in, powers-in}
+use Rattle.exact.proofs.Growth.{letters-in, powers-in}
+use Rattle.exact.proofs.Exponents.{in-range, one-in}
 use Rattle.exact.proofs.Ranges.{widen}
 use Rattle.encounter.specs.declared.steps.sides.PowerPairs.{PowerPairs}
 use Rattle.encounter.specs.declared.steps.sides.Pair.{Pair}
@@ -26,18 +26,15 @@ use Rattle.encounter.proofs.steps.Pairs.{by-side}
 
 -- ---- ranges
 
-one-in : InRange 32 400 one
-one-in = record { is-scaled = inr (record { low = lit≤ tt; high = lit< tt }); above = lit≤ tt; below = lit≤ tt }
-
 module _ (up : Bool) {E : Encounter} (a : Accepted E) where
   t-in : InRange 32 387 (side-letters up E .t)
   unfolding side-letters
-  t-in = letters-in up (facts a .bounds) .t
+  t-in = letters-in (in-range up) (facts a .bounds) .t
 
   pub powers-fine : (k : ℕ) → k ≤ exponential-cut → Powers-in (2 ^ 22) (side-powers up E k)
   unfolding side-powers
   powers-fine k l =
-      let q = powers-in up one _ one-in t-in k (omega arith) in
+      let q = powers-in (in-range up) one _ one-in t-in k (omega arith) in
       record { r = widen (omega arith) (q .r); sum = widen (omega arith) (q .sum) }
 
 -- from k to k + 1

@@ -13,7 +13,8 @@ use Rattle.exact.specs.Numbers.{largest-order}
 use Rattle.exact.specs.Private.Ranges.{InRange, Letters-in, Terms-in}
 use Rattle.exact.specs.Private.Round.{round}
 use Rattle.exact.specs.Steps.{LettersOf, TermsOf, next-c}
-use Rattle.exact.proofs.Exponents.{add-in, mul-in, div-in, half-in, c-in}
+use Rattle.exact.proofs.Growth.{c-in}
+use Rattle.exact.proofs.Exponents.{in-range}
 use Rattle.exact.proofs.Ranges.{widen}
 use Rattle.encounter.proofs.arithmetic.Results.{number-of}
 
@@ -47,20 +48,20 @@ module _ (up : Bool) where
   -- ---- its range
 
   pub sum-fine : {A : ℕ} (a b : Traced) {r : Traced} → r ≡ traced up 32 .sum a b → InRange 32 A (a .number) → InRange 32 A (b .number) → InRange 32 (A + 1 + 1) (r .number)
-  sum-fine a b e h k = rw (e, sum-number a b) (add-in up h k)
+  sum-fine a b e h k = rw (e, sum-number a b) (in-range up .sum h k)
 
   pub product-fine : {A B : ℕ} (a b : Traced) {r : Traced} → r ≡ traced up 32 .product a b → InRange 32 A (a .number) → InRange 32 B (b .number) → InRange 32 (A + B + 32 + 1) (r .number)
-  product-fine a b e h k = rw (e, product-number a b) (mul-in up h k)
+  product-fine a b e h k = rw (e, product-number a b) (in-range up .product h k)
 
   pub over-fine : {A : ℕ} (a : Traced) (k : ℕ) {r : Traced} → r ≡ traced up 32 .quotient a k → 0 < k → k ≤ 2 ^ 32 → InRange 32 A (a .number) → InRange 32 (A + 32 + 1) (r .number)
-  over-fine a k e p l h = rw (e, over-number a k) (div-in up k p l h)
+  over-fine a k e p l h = rw (e, over-number a k) (in-range up .quotient k p l h)
 
   pub half-fine : {A : ℕ} (a : Traced) {r : Traced} → r ≡ traced up 32 .half a → InRange 32 A (a .number) → InRange 32 (A + 1) (r .number)
-  half-fine a e h = rw (e, half-number a) (half-in up h)
+  half-fine a e h = rw (e, half-number a) (in-range up .half h)
 
   pub c-fine : (l : LettersOf Traced) (n : ℕ) (s : TermsOf Traced) {r : Traced} → r ≡ next-c (traced up 32) l n s → n < largest-order → Letters-in (letter-numbers l) → Terms-in (2 ^ 22) (term-numbers s)
       → InRange 32 (2 ^ 22 + 460) (r .number)
-  c-fine l n s e nl i k = rw (e, c-number l n s) (c-in up _ i (2 ^ 22) n nl k)
+  c-fine l n s e nl i k = rw (e, c-number l n s) (c-in (in-range up) _ i (2 ^ 22) n nl k)
 
   -- v(n+1), where x is c(n+1)
   pub weighted-fine : (n : ℕ) (x h y : Traced) {r : Traced} → n < largest-order → r ≡ traced up 32 .sum x (traced up 32 .quotient (traced up 32 .product h y) (suc (suc n)))

@@ -1,5 +1,5 @@
 -- Premises of the private arithmetic, no line of the paper: bounds on an encounter's inputs, and how far the exponents of a side's letters and terms go; and how
--- far those of its powers go, which only laws name. proofs/Accepted.antt and proofs/Exponents.antt prove them.
+-- far those of its powers go, which only laws name. proofs/Accepted.antt, proofs/Growth.antt and proofs/Exponents.antt prove them.
 use Prim.Native.Nat.{ℕ, _≤_, _<_}
 use mathlib.Core.Bool.{cond}
 use lib.IntN.{natAbs}
@@ -33,20 +33,32 @@ pub record InRange (bits B : ℕ) (x : Scaled) : Type 0 where
   pub above : posPart (x .e) ≤ B
   pub below : negPart (x .e) ≤ B
 
-pub record Letters-in (l : LettersOf Scaled) : Type 0 where
-  pub u : InRange 32 177 (l .u)
-  pub h : InRange 32 387 (l .h)
-  pub X : InRange 32 387 (l .X)
-  pub Y : InRange 32 387 (l .Y)
-  pub t : InRange 32 387 (l .t)
+-- letters, terms and powers, of any arithmetic, whose numbers have P: P B x is a property of x that holds for every larger B too
+module _ {S : Type 0} (P : ℕ → S → Type 0) where
+  pub record Letters-all (l : LettersOf S) : Type 0 where
+    pub u : P 177 (l .u)
+    pub h : P 387 (l .h)
+    pub X : P 387 (l .X)
+    pub Y : P 387 (l .Y)
+    pub t : P 387 (l .t)
 
-pub record Terms-in (B : ℕ) (s : TermsOf Scaled) : Type 0 where
-  pub c : InRange 32 B (s .c)
-  pub p : InRange 32 B (s .p)
-  pub v : InRange 32 B (s .v)
-  pub y : InRange 32 B (s .y)
-  pub sum : InRange 32 B (s .sum)
+  pub record Terms-all (B : ℕ) (s : TermsOf S) : Type 0 where
+    pub c : P B (s .c)
+    pub p : P B (s .p)
+    pub v : P B (s .v)
+    pub y : P B (s .y)
+    pub sum : P B (s .sum)
 
-pub record Powers-in (B : ℕ) (w : PowersOf Scaled) : Type 0 where
-  pub r : InRange 32 B (w .r)
-  pub sum : InRange 32 B (w .sum)
+  pub record Powers-all (B : ℕ) (w : PowersOf S) : Type 0 where
+    pub r : P B (w .r)
+    pub sum : P B (w .sum)
+
+-- of a side's numbers: how far their exponents go
+abbrev pub Letters-in : LettersOf Scaled → Type 0
+Letters-in l = Letters-all (InRange 32) l
+
+abbrev pub Terms-in : ℕ → TermsOf Scaled → Type 0
+Terms-in B s = Terms-all (InRange 32) B s
+
+abbrev pub Powers-in : ℕ → PowersOf Scaled → Type 0
+Powers-in B w = Powers-all (InRange 32) B w

@@ -3,7 +3,7 @@ use mathlib.Core.Bool.{true}
 use native.Mathlib.Nat.{zero-lt-suc}
 use lib.Dec.{lit≤}
 use Rattle.exact.specs.Steps.{next-d}
-use Rattle.exact.proofs.Exponents.{mul-in, div-in}
+use Rattle.exact.proofs.Exponents.{in-range}
 use Rattle.exact.proofs.Ranges.{widen}
 use borrow.Author.Needs.{needs}
 use Rattle.encounter.proofs.steps.terms.first_tail.Statement.{statement}
@@ -22,7 +22,7 @@ narrowed-requires : tie.Need-narrowed-requires
 unfolding next-d
 narrowed-requires c κs =
     let z = c .before .before .before in
-    rw (c .next-tail .ensures, c .before .before .widen .ensures, c .before .widen2 .ensures) (widen (lit≤ tt) (div-in true _ (zero-lt-suc _) (lit≤ tt) (mul-in true (z .pre .1) (z .pre .0))))
+    rw (c .next-tail .ensures, c .before .before .widen .ensures, c .before .widen2 .ensures) (widen (lit≤ tt) (in-range true .quotient _ (zero-lt-suc _) (lit≤ tt) (in-range true .product (z .pre .1) (z .pre .0))))
 
 returns : tie.Need-returns
 returns c = c .narrowed .ensures ∙ rw (c .before .before .before .widen .ensures, c .before .before .widen2 .ensures) at (c .before .next-tail .ensures)

@@ -11,7 +11,7 @@ use Rattle.exact.specs.Private.Round.{round}
 use Rattle.exact.specs.Arithmetic.{rounded}
 use Rattle.exact.specs.Steps.{next-c}
 use Rattle.exact.proofs.Ranges.{widen}
-use Rattle.exact.proofs.Exponents.{mul-in}
+use Rattle.exact.proofs.Exponents.{in-range}
 use Rattle.encounter.proofs.arithmetic.Fitting.{product-of, sum-of, half-of}
 use Rattle.encounter.proofs.steps.Divisors.{divisor, divisor-low, divisor-max}
 use Rattle.encounter.proofs.steps.terms.next_term.Statement.{statement}
@@ -20,7 +20,7 @@ use Rattle.encounter.proofs.steps.terms.next_term.Tie as tie
 -- the range of each number on the way
 module _ (up : Bool) where
   hv-in : {h v hv : Scaled} → hv ≡ rounded up 32 .product h v → InRange 32 387 h → InRange 32 (2 ^ 22) v → InRange 32 (2 ^ 22 + 420) hv
-  hv-in e i k = rw e (widen (lit≤ tt) (mul-in up i k))
+  hv-in e i k = rw e (widen (lit≤ tt) (in-range up .product i k))
 
   first-in : {p x a : Scaled} → a ≡ round up 32 (value p ⊕ value x) → InRange 32 (2 ^ 22) p → InRange 32 (2 ^ 22 + 421) x → InRange 32 (2 ^ 22 + 423) a
   first-in e i k = sum-of up e (widen (lit≤ tt) i) k

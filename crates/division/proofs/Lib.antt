@@ -1,0 +1,4 @@
+pub mod Refusing
+pub mod Moving
+pub mod Never
+pub mod Dividing
