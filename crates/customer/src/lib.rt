@@ -9,9 +9,12 @@ ghost use Rattle.jinthuol.specs.Answer.{numbered, called};
 use advice::Advice;
 use advice::advise;
 use advice::orders;
+use division::Divided;
+use division::divide;
 use encounter::calls;
 use encounter::calls::records::take_record;
 use encounter::decimals::to_decimal;
+use encounter::mantissas::over;
 use encounter::state::Answer;
 use encounter::state::Called;
 use encounter::state::Session;
@@ -24,6 +27,7 @@ use jinthuol::jinthuol_add;
 use jinthuol::jinthuol_advise;
 use jinthuol::jinthuol_begin;
 use jinthuol::jinthuol_begin_conjunction;
+use jinthuol::jinthuol_divide;
 use jinthuol::jinthuol_empty;
 use jinthuol::jinthuol_read;
 use jinthuol::jinthuol_run;
@@ -176,6 +180,18 @@ fn in_decimal(up: bool, x: Scaled) -> Decimal {
 
 fn in_decimal_exported(up: bool, x: Scaled) -> Decimal {
     jinthuol_to_decimal(up, x)
+}
+
+fn any_mantissa(up: bool, m: u32, k: u32) -> Scaled {
+    over(up, m, k)
+}
+
+fn any_quotient(up: bool, x: Scaled, k: u32) -> Divided {
+    divide(up, x, k)
+}
+
+fn any_quotient_exported(up: bool, x: Scaled, k: u32) -> Divided {
+    jinthuol_divide(up, x, k)
 }
 
 fn any_line(out: &mut [u8], at: usize, offset: usize, kind: u8, a: Answer) -> usize {

@@ -1,14 +1,18 @@
-// The library for programs in other languages: the calls of crate encounter, the advised order, numbers in decimal and the listing of a script, under names of C.
+// The library for programs in other languages: the calls of crate encounter, the advised order, numbers in decimal, the division by a whole number and the listing of a
+// script, under names of C.
 ghost use mathlib.Core.Path.{_≡_};
 ghost use Rattle.exact.specs.Decimals.{decimal-of, Printed, Found, Near};
 ghost use Rattle.encounter.specs.Session.{empty as empty-session};
 ghost use Rattle.encounter.specs.Calls.{begins, begins-conjunction, adds, reads, call, Reached};
 ghost use Rattle.advice.specs.Advice.{advice as advised};
+ghost use Rattle.division.specs.Division.{divided, Says};
 ghost use Rattle.jinthuol.specs.Advice.{advice-numbers, told};
 ghost use Rattle.jinthuol.specs.Answer.{class-number, numbered, called};
 ghost use Rattle.jinthuol.specs.Run.{RunOf};
 ghost use Rattle.jinthuol.specs.Version.{version};
 use advice;
+use division::Divided;
+use division::divide;
 use encounter::calls;
 use encounter::decimals::to_decimal;
 use encounter::state;
@@ -23,7 +27,7 @@ use listing::script::put_lines;
 use listing::script::put_too_long;
 
 // The version of the functions below and their structs; bindings/c/jinthuol.h has the same number.
-pub const VERSION: u32 = 6;
+pub const VERSION: u32 = 7;
 
 // An answer, with its class as a number.
 #[repr(C)]
@@ -209,6 +213,14 @@ pub extern "C" fn jinthuol_to_decimal(up: bool, number: Scaled) -> Decimal
     ensures { λ r. ⌜ (r ≡ decimal-of up number) × Printed up number r × (Found up number → Near number r) ⌝ }
 {
     to_decimal(up, number)
+}
+
+// A number divided by a whole number: rounded down or, where up is true, up.
+#[no_mangle]
+pub extern "C" fn jinthuol_divide(up: bool, number: Scaled, divisor: u32) -> Divided
+    ensures { λ r. ⌜ (r ≡ divided up number divisor) × Says up number divisor r ⌝ }
+{
+    divide(up, number, divisor)
 }
 
 // The listing of a script, as far as the buffer has room for it.

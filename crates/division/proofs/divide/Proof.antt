@@ -31,7 +31,7 @@ sum-requires c κs =
     let f : SFits w32 (a .number .e) = record { sfits = c .before .before .before .struct-told .given .1 .0 .1 } in
     let g : SFits w32 (q .result .e) = record { sfits = c .struct-told2 .given .1 .0 .1 } in
     rw (toZ-ofZ {w = w32} f, toZ-ofZ {w = w32} g)
-    (quotient-fits (a .up) (a .number) (a .divisor) (sym (z .refused .ensures) ∙ c .before .before .before .before .if1 .left) (c .before .before .if2 .left) (search needs) (q .result) (q .ensures) f)
+    (quotient-fits _ (a .number) (a .divisor) (sym (z .refused .ensures) ∙ c .before .before .before .before .if1 .left) (c .before .before .if2 .left) (search needs) (q .result) (q .ensures) f)
 
 returns-3 : tie.Need-returns-3
 returns-3 c =
