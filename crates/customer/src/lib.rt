@@ -10,7 +10,6 @@ use advice::Advice;
 use advice::advise;
 use advice::orders;
 use encounter::calls;
-use encounter::calls::records::take_record;
 use encounter::decimals::to_decimal;
 use encounter::state::Answer;
 use encounter::state::Called;
@@ -33,6 +32,7 @@ use listing::put_line;
 use listing::script::Piece;
 use listing::script::put_lines;
 use listing::script::put_too_long;
+use records::take_record;
 
 // A session of which callers know only that calls left it.
 fn used(C: Conjunction, E: Encounter, count: u16, script: &[u8], at: usize) -> Session
@@ -168,6 +168,10 @@ fn the_table() -> [u16; 256] {
 
 fn any_number(n: u32) -> Scaled {
     Scaled::whole(n)
+}
+
+fn any_refusal(r: u32) -> Answer {
+    Answer::refused(r)
 }
 
 fn in_decimal(up: bool, x: Scaled) -> Decimal {
