@@ -187,7 +187,7 @@ def of_build(folder):
     refuses("nowhere to build", screen(with_rt), 1, "cannot be written")
     (copy / "target").unlink()
     expect("nothing was asked", asked(copy), [])
-    crates = ["exact", "encounter", "listing", "screen"]
+    crates = ["exact", "encounter", "records", "listing", "screen"]
     status, stdout, stderr = screen(with_rt)
     expect("the first run", (status, stdout), (0, LISTING))
     said = stderr.splitlines()

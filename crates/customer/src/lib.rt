@@ -12,7 +12,6 @@ use advice::orders;
 use division::Divided;
 use division::divide;
 use encounter::calls;
-use encounter::calls::records::take_record;
 use encounter::decimals::to_decimal;
 use encounter::mantissas::over;
 use encounter::state::Answer;
@@ -37,6 +36,7 @@ use listing::put_line;
 use listing::script::Piece;
 use listing::script::put_lines;
 use listing::script::put_too_long;
+use records::take_record;
 
 // A session of which callers know only that calls left it.
 fn used(C: Conjunction, E: Encounter, count: u16, script: &[u8], at: usize) -> Session
@@ -172,6 +172,10 @@ fn the_table() -> [u16; 256] {
 
 fn any_number(n: u32) -> Scaled {
     Scaled::whole(n)
+}
+
+fn any_refusal(r: u32) -> Answer {
+    Answer::refused(r)
 }
 
 fn in_decimal(up: bool, x: Scaled) -> Decimal {

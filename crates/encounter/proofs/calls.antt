@@ -1,7 +1,6 @@
 pub mod Reading
 pub mod Answering
 pub mod Conjunctions
-pub mod Requests
 pub mod Stars
 pub mod Invariant
 pub mod Lending

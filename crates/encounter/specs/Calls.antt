@@ -1,18 +1,16 @@
 -- Document 01, 'Script records': the calls, what each answers and the session after it, told from the history: no encounter, or one with its object number and
 -- its time, and the order N.
-use mathlib.Core.Bool.{cond, _||_}
+use mathlib.Core.Bool.{cond}
 use mathlib.Core.List.{List}
 use Prim.Native.Nat.{ℕ, _+_}
 use lib.Dec.{eqb}
-use lib.ListN.{getD}
 use Rattle.exact.specs.declared.Encounter.{Encounter}
 use Rattle.exact.specs.declared.Conjunction.{Conjunction}
-use Rattle.exact.specs.Records.{body-length, Request, begin, begin-conjunction, add, read, bad}
-use Rattle.exact.specs.Refusals.{refuses-1, refuses-2, request-at, History, no-encounter, encounter-at, refusal}
+use Rattle.exact.specs.Records.{Request, begin, begin-conjunction, add, read, bad}
+use Rattle.exact.specs.Refusals.{request-at, History, no-encounter, encounter-at, refusal}
 use Rattle.encounter.specs.declared.state.Session.{Session}
 use Rattle.encounter.specs.declared.state.Answer.{Answer}
 use Rattle.encounter.specs.declared.state.Called.{Called}
-use Rattle.encounter.specs.declared.state.Taken.{Taken}
 use Rattle.encounter.specs.Session.{empty, state, no-object, conjunction-of, refused, counted, bracket}
 
 -- ---- the history
@@ -91,14 +89,6 @@ asked (takes script position) = request-at script position
 -- what a call on a session answers, and the session after it
 abbrev pub call : Call → Session → Called
 call c s = outcome (history-of s) (asked c) s
-
--- the position past a record; after refusal 1 or 2 the record's own, since the script ends there
-unfoldable pub next-at : List ℕ → ℕ → ℕ
-next-at l i = cond (refuses-1 l i || refuses-2 l i) i (i + 1 + body-length (getD l i 0))
-
--- the call of the record at a position of a script
-unfoldable pub record-call : List ℕ → ℕ → Session → Taken
-record-call l i s = record { answer = call (takes l i) s .answer; next = next-at l i; session = call (takes l i) s .session }
 
 -- "That the lent session came from these calls is the one premise a call may have"
 pub data Reached : Session → Type 0 where

@@ -9,15 +9,12 @@ ghost use Rattle.encounter.specs.Enclosure.{Demands};
 ghost use Rattle.encounter.specs.Claims.{Claims};
 
 mod answers;
-mod bytes;
 mod ends;
 pub mod lent;
 mod opening;
-pub mod records;
 mod tests;
 
 use crate::calls::answers::count_to;
-use crate::calls::answers::refuse;
 use crate::calls::answers::refused_on;
 use crate::calls::ends::classify;
 use crate::calls::ends::lower_end;
@@ -194,7 +191,7 @@ pub fn read(s: Session) -> Answer
     ensures demands { λ _. ⌜ Demands ⌝ }
 {
     if s.N == 0 {
-        return refuse(21);
+        return Answer::refused(21);
     }
     if may_read(s) {
         let lower = lower_end(s);
@@ -211,6 +208,6 @@ pub fn read(s: Session) -> Answer
             exact: s.exact,
         }
     } else {
-        refuse(23)
+        Answer::refused(23)
     }
 }

@@ -1,4 +1,6 @@
 // The session: all that is kept of one encounter between calls, and what a call answers.
+ghost use mathlib.Core.Path.{_≡_};
+ghost use Rattle.encounter.specs.Session.{refused};
 use exact::Encounter;
 use exact::Scaled;
 
@@ -66,15 +68,26 @@ pub struct Answer {
     pub exact: u32,
 }
 
+impl Answer {
+    // The answer of a refusal.
+    pub fn refused(r: u32) -> Answer
+        ensures { λ a. ⌜ a ≡ refused r ⌝ }
+    {
+        Answer {
+            refusal: r,
+            N: 0,
+            lower: Scaled::ZERO,
+            upper: Scaled::ZERO,
+            class: Class::Clear,
+            object: 0,
+            time: 0,
+            exact: 0,
+        }
+    }
+}
+
 // What a call answers, and the session after it.
 pub struct Called {
     pub answer: Answer,
-    pub session: Session,
-}
-
-// What a record's call answers, the position of the next record, and the session after it.
-pub struct Taken {
-    pub answer: Answer,
-    pub next: usize,
     pub session: Session,
 }

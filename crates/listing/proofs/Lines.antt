@@ -9,10 +9,11 @@ use lib.Dec.{ltb, T}
 use lib.ListN.{length, take, drop, getD, length-take, length-append}
 use lib.Seq.{length-take-le}
 use Rattle.encounter.specs.declared.state.Session.{Session}
-use Rattle.encounter.specs.declared.state.Taken.{Taken}
 use Rattle.exact.specs.Records.{body-length, bad, request-of}
 use Rattle.exact.specs.Refusals.{refuses-1, refuses-2, request-at, refusal}
-use Rattle.encounter.specs.Calls.{history-of, outcome, next-at, record-call, Reached}
+use Rattle.encounter.specs.Calls.{history-of, outcome, Reached}
+use Rattle.records.specs.declared.Taken.{Taken}
+use Rattle.records.specs.RecordCall.{next-at, record-call}
 use Rattle.listing.specs.Line.{line, room}
 use Rattle.listing.specs.Put.{Put}
 use Rattle.listing.proofs.Putting.{dropped}

@@ -9,7 +9,8 @@ use Rattle.exact.specs.Refusals.{refuses-8}
 use Rattle.encounter.specs.declared.state.Session.{Session}
 use Rattle.encounter.specs.declared.state.Answer.{Answer}
 use Rattle.encounter.specs.Session.{empty, refused}
-use Rattle.encounter.specs.Calls.{record-call, Reached}
+use Rattle.encounter.specs.Calls.{Reached}
+use Rattle.records.specs.RecordCall.{record-call}
 use Rattle.listing.specs.Line.{line, room}
 use Rattle.listing.specs.declared.script.Piece.{Piece}
 

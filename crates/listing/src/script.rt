@@ -5,11 +5,11 @@ ghost use Rattle.listing.specs.Put.{PutLine};
 ghost use mathlib.Core.Path.{_≡_};
 use crate::ROOM;
 use crate::put_line;
-use encounter::calls::records::take_record;
 use encounter::state::Answer;
 use encounter::state::Class;
 use encounter::state::Session;
 use exact::Scaled;
+use records::take_record;
 
 // The bytes of the buffer that are used, the next position and the session there, and whether the listing is at its end.
 pub struct Piece {

@@ -15,8 +15,6 @@ use Rattle.exact.specs.Refusals.{Accepted}
 use Rattle.encounter.specs.declared.state.Letters.{Letters}
 use Rattle.encounter.specs.declared.state.Terms.{Terms}
 use Rattle.encounter.specs.declared.state.Session.{Session}
-use Rattle.encounter.specs.declared.state.Called.{Called}
-use Rattle.encounter.specs.declared.state.Taken.{Taken}
 use Rattle.encounter.specs.declared.steps.counts.Counts.{Counts}
 use Rattle.encounter.specs.declared.steps.counts.Counting.{Counting}
 use Rattle.encounter.specs.declared.steps.losses.Losses.{Losses}
@@ -80,10 +78,6 @@ progress E n = record { lower = held-terms (side-terms false E n); upper = held-
 -- a and b are the lower and the upper t of E, which is accepted
 abbrev pub T-of : Encounter → Scaled → Scaled → Type 0
 T-of E a b = (Accepted E) × (a ≡ side-letters false E .t) × (b ≡ side-letters true E .t)
-
--- a record's call, from the call that it asks for
-abbrev pub made-of : Called → ℕ → Taken
-made-of c next = record { answer = c .answer; next = next; session = c .session }
 
 -- a session with an encounter (proofs/calls/Invariant.antt)
 pub record Begun (s : Session) : Type 0 where

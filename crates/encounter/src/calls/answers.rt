@@ -7,27 +7,12 @@ use crate::state::Class;
 use crate::state::Session;
 use exact::Scaled;
 
-pub fn refuse(r: u32) -> Answer
-    ensures { λ a. ⌜ a ≡ refused r ⌝ }
-{
-    Answer {
-        refusal: r,
-        N: 0,
-        lower: Scaled::ZERO,
-        upper: Scaled::ZERO,
-        class: Class::Clear,
-        object: 0,
-        time: 0,
-        exact: 0,
-    }
-}
-
 // A refusal, with the session as it was.
 pub fn refused_on(r: u32, s: Session) -> Called
     ensures { λ c. ⌜ c ≡ record { answer = refused r; session = s } ⌝ }
 {
     Called {
-        answer: refuse(r),
+        answer: Answer::refused(r),
         session: s,
     }
 }

@@ -12,11 +12,11 @@ use Rattle.encounter.proofs.calls.read.Tie as tie
 flipped : {b r x : Bool} → r ≡ not b → r ≡ x → b ≡ not x
 flipped {b = b} e f = not-not b ∙ ap not (sym e ∙ f)
 
-refuse-requires : tie.Need-refuse-requires
-refuse-requires c κs = search needs
+refused-requires : tie.Need-refused-requires
+refused-requires c κs = search needs
 
 returns : tie.Need-returns
-returns c = let z = c .before .before .before in (read-21 (z .args .s) (c .before .if1 .taken) (c .refuse .ensures), demands)
+returns c = let z = c .before .before .before in (read-21 (z .args .s) (c .before .if1 .taken) (c .refused .ensures), demands)
 
 may-read-requires : tie.Need-may-read-requires
 may-read-requires c κs = let z = c .before .before in begun (z .args .s) (z .pre) (c .if1 .left)
@@ -33,8 +33,8 @@ classify-requires c κs =
     let b = begun (z .args .s) (z .pre) (c .before .before .before .before .if1 .left) in
     (lower-end-fine (z .args .s) b (c .before .lower-end .ensures), upper-end-fine (z .args .s) b (c .upper-end .ensures))
 
-refuse-requires-2 : tie.Need-refuse-requires-2
-refuse-requires-2 c κs = search needs
+refused-requires-2 : tie.Need-refused-requires-2
+refused-requires-2 c κs = search needs
 
 returns-2 : tie.Need-returns-2
 returns-2 c =
@@ -48,18 +48,18 @@ returns-2 c =
 returns-3 : tie.Need-returns-3
 returns-3 c =
     let z = c .before .before .before .before .before in
-    (read-23 (z .args .s) (c .before .before .before .if1 .left) (flipped (c .before .before .may-read .ensures) (c .before .if2 .left)) (c .refuse2 .ensures), demands)
+    (read-23 (z .args .s) (c .before .before .before .if1 .left) (flipped (c .before .before .may-read .ensures) (c .before .if2 .left)) (c .refused2 .ensures), demands)
 
 pub read-spec : {M : Type 1} → statement M
 read-spec =
     tie.close
     (tie.spec
-    refuse-requires
+    refused-requires
     returns
     may-read-requires
     lower-end-requires
     upper-end-requires
     classify-requires
-    refuse-requires-2
+    refused-requires-2
     returns-2
     returns-3)
