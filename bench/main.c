@@ -9,6 +9,7 @@
 #include "advice.h"
 #include "contender.h"
 #include "decimals.h"
+#include "division.h"
 #include <inttypes.h>
 #include <math.h>
 #include <stdio.h>
@@ -283,6 +284,75 @@ static void print_advice(void)
     }
 }
 
+/* Whether both versions answer the same quotient or refusal, in both directions. */
+static int equal_divisions(jinthuol_scaled x, uint32_t k)
+{
+    for (int up = 0; up < 2; up++) {
+        jinthuol_divided found = same_divided(up, x, k), due = jinthuol_divide(up, x, k);
+        if (found.refusal != due.refusal || found.quotient.m != due.quotient.m || found.quotient.e != due.quotient.e) {
+            printf("divisions of %" PRIu32 " %" PRId32 " by %" PRIu32 " differ\n", x.m, x.e, k);
+            return 0;
+        }
+    }
+    return 1;
+}
+
+/* Whether the divisions of both versions are the same: at the limits of m and e, by each power of two, one less and one more; then of
+   drawn numbers, one in eight of any m, the others of 32 bits, with any e, by divisors of all sizes. */
+static int compare_divisions(void)
+{
+    static const uint32_t MANTISSAS[] = {0, 1, 0x7fffffff, 0x80000000, 0x80000001, 0xfffffffe, 0xffffffff};
+    static const int32_t EXPONENTS[] = {INT32_MIN, -1000000001, -1000000000, -999999999, -35, -1, 0, 1, INT32_MAX - 1, INT32_MAX};
+    enum { M_COUNT = sizeof MANTISSAS / sizeof MANTISSAS[0], E_COUNT = sizeof EXPONENTS / sizeof EXPONENTS[0] };
+    for (int i = 0; i < M_COUNT * E_COUNT; i++)
+        for (int j = 0; j < 3 * 33; j++) {
+            /* 2^32 and one more are 0 and 1 here */
+            uint32_t k = (uint32_t)((1ull << (j / 3)) + (uint64_t)(j % 3) - 1);
+            if (!equal_divisions((jinthuol_scaled){MANTISSAS[i / E_COUNT], EXPONENTS[i % E_COUNT]}, k))
+                return 0;
+        }
+    for (int i = 0; i < 1000000; i++) {
+        uint32_t m = drawn(0xffffffff) | (i % 8 ? 0x80000000 : 0), k = drawn(0xffffffff) >> drawn(32);
+        if (!equal_divisions((jinthuol_scaled){m, (int32_t)drawn(0xffffffff)}, k))
+            return 0;
+    }
+    return 1;
+}
+
+/* Divisions of the upper end of the first case, down and up, by a small and by the largest divisor; of zero; and two that are refused, by
+   the first and by the last of the tests. */
+static void print_divisions(void)
+{
+    static double found[2][ROUNDS];
+    struct answer a = ends(CONTENDERS[PROVED], &CASES[0]);
+    jinthuol_scaled x = {a.mh, a.eh};
+    const struct {
+        const char *name;
+        bool up;
+        jinthuol_scaled number;
+        uint32_t divisor;
+    } divisions[] = {
+        {"D, 3", false, x, 3},
+        {"U, 3", true, x, 3},
+        {"D, 2^32 - 1", false, x, 0xffffffff},
+        {"U, 2^32 - 1", true, x, 0xffffffff},
+        {"zero", true, {0, 0}, 3},
+        {"divisor 0", true, x, 0},
+        {"e too low", true, {a.mh, -1000000001}, 3},
+    };
+    printf("\nA division, proved and in C\n  %-11s %9s %9s  /same\n", "", "proved", "same");
+    for (size_t i = 0; i < sizeof divisions / sizeof divisions[0]; i++) {
+        bool up = divisions[i].up;
+        jinthuol_scaled number = divisions[i].number;
+        uint32_t divisor = divisions[i].divisor;
+        for (int round = 0; round < ROUNDS; round++) {
+            found[0][round] = NANOSECONDS(1024, LEAST, sink = jinthuol_divide(up, number, divisor).quotient.m);
+            found[1][round] = NANOSECONDS(1024, LEAST, sink = same_divided(up, number, divisor).quotient.m);
+        }
+        printf("  %-11s %9.1f %9.1f  %5.2f\n", divisions[i].name, median(found[0]), median(found[1]), ratio(found[0], found[1]));
+    }
+}
+
 /* Nanoseconds of a begin of kind 4 by the library. */
 static double time_conjunction(jinthuol_encounter E)
 {
@@ -334,12 +404,12 @@ static int table(void)
             return 1;
     fill_powers();
     fill_orders();
-    if (!compare_decimals() || !compare_advice(list))
+    if (!compare_decimals() || !compare_advice(list) || !compare_divisions())
         return 1;
     print_processor();
     printf("Nanoseconds and ratios, medians of %d rounds. A term is both sides and the tail term.\n", ROUNDS);
     printf("/same, /plain, /doubles: proved over it. mpfr/: MPFR over proved.\n");
-    printf("The ends, N and class of all contenders are equal, and so are the decimals and the advice of both versions.\n");
+    printf("The ends, N and class of all contenders are equal, and so are the decimals, the advice and the divisions of both versions.\n");
     measure(list);
     for (int i = 0; i < CASE_COUNT; i++) {
         jinthuol_encounter E = CASES[i].E;
@@ -352,6 +422,7 @@ static int table(void)
     print_begins();
     print_decimals();
     print_advice();
+    print_divisions();
     return 0;
 }
 

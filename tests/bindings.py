@@ -4,8 +4,8 @@
     python3 tests/bindings.py [--library FOLDER] [--seed N]
 
 The folder holds the library; `rt staticlib jinthuol` writes it to target/staticlib. Encounters go through
-bindings/c/example.c, compiled as C and as C++; guard.c tries that no call writes past a session. The tests of
-bindings/rust are run. Scripts go through bindings/python and bindings/rust, and their records as calls through
+bindings/c/example.c, compiled as C and as C++; guard.c tries that no call writes past a session. The divisions of
+division.py go through quotients.c, compiled so too, and through bindings/python. The tests of bindings/rust are run. Scripts go through bindings/python and bindings/rust, and their records as calls through
 bindings/python, where every number of the session and its advice are compared too. What is built goes to
 target/bindings. Exits with 1 at the first difference.
 """
@@ -21,6 +21,7 @@ import subprocess
 import sys
 
 sys.dont_write_bytecode = True
+import division
 import drawn
 import edges
 import encounters
@@ -169,16 +170,22 @@ WRONG_LINES = (
 )
 
 
+COMPILERS = {"gcc": ["-std=c99", "-x", "c"], "g++": ["-std=c++11", "-x", "c++"]}
+
+
+def built(compiler, library, source):
+    """The program that the compiler makes of a source in C."""
+    program = BUILT / f"{source.stem}-{compiler}"
+    files = [*COMPILERS[compiler], f"-I{BINDINGS}/c", source, "-x", "none", library / "libjinthuol.a", "-lm"]
+    output([compiler, "-O2", *WARNINGS, *files, "-o", program])
+    return program
+
+
 def of_c(rng, library):
     """Gives how many encounters were compared."""
-    programs = {}
-    for compiler, language in (("gcc", ["-std=c99", "-x", "c"]), ("g++", ["-std=c++11", "-x", "c++"])):
-        programs[compiler] = BUILT / f"example-{compiler}"
-        guard = BUILT / f"guard-{compiler}"
-        for source, program in (BINDINGS / "c/example.c", programs[compiler]), (ROOT / "tests/guard.c", guard):
-            files = [*language, f"-I{BINDINGS}/c", source, "-x", "none", library / "libjinthuol.a", "-lm"]
-            output([compiler, "-O2", *WARNINGS, *files, "-o", program])
-        output([guard])
+    programs = {compiler: built(compiler, library, BINDINGS / "c/example.c") for compiler in COMPILERS}
+    for compiler in COMPILERS:
+        output([built(compiler, library, ROOT / "tests/guard.c")])
     tried = list(cases(rng))
     made = [(case, *call) for case in tried for call in called(*case)]
     answered = {(call, answer.refusal) for _, call, answer in made}
@@ -199,6 +206,34 @@ def of_c(rng, library):
             fails(f"{compiler}, {wrong}", program, input=wrong.encode())
         with open("/dev/full", "wb") as full:
             fails(f"{compiler}, a full device", program, input=b"8 1 1 8 0 1", stdout=full)
+    return len(tried)
+
+
+# Divisions, through C and Python.
+
+
+def of_divisions(rng, library):
+    """Gives how many were compared."""
+    import jinthuol as python
+
+    tried = division.cases(rng)
+    due = [division.divided(*case) for case in tried]
+    found = {}
+    for compiler in COMPILERS:
+        lines = "".join(f"{case.up:d} {case.number.m} {case.number.e} {case.divisor}\n" for case in tried).encode()
+        printed = output([built(compiler, library, ROOT / "tests/quotients.c")], input=lines).decode()
+        found[compiler] = [tuple(map(int, line.split())) for line in printed.splitlines()]
+    for up, number, divisor in tried:
+        number = python.Scaled(*number)
+        answer = number.divided_up(divisor) if up else number.divided_down(divisor)
+        numbers = answer.refusal, answer.quotient.m, answer.quotient.e
+        found.setdefault("Python", []).append(numbers)
+    for language, answers in found.items():
+        if len(answers) != len(tried):
+            differs(f"divisions by {language}", len(answers), len(tried))
+        for case, answer, (refusal, quotient) in zip(tried, answers, due):
+            if answer != (refusal, *quotient):
+                differs(f"by {language}, {case}", answer, (refusal, *quotient))
     return len(tried)
 
 
@@ -257,7 +292,6 @@ def call_by_call(name, script, python):
 
 def of_scripts(rng, rust):
     """Gives how many scripts and how many calls from Python were compared."""
-    sys.path.insert(0, str(BINDINGS / "python"))
     import jinthuol as python
 
     count = calls = 0
@@ -282,7 +316,13 @@ def of_scripts(rng, rust):
 def of_wrong_numbers(python):
     """Python takes no number that does not fit."""
     session, encounter = python.Session.empty(), python.Encounter(1, 1, 1, 0, 0)
+    number = python.Scaled(1 << 31, 0)
     for call, wrong in (
+        (python.Scaled, 1 << 32),
+        (python.Scaled, -1),
+        (lambda e: python.Scaled(0, e), 1 << 31),
+        (number.divided_down, 1 << 32),
+        (number.divided_up, -1),
         (session.begin, encounter._replace(R=1 << 32)),
         (session.begin_conjunction, python.Conjunction(encounter._replace(R=1 << 32), 1, 2)),
         (session.begin_conjunction, python.Conjunction(encounter, 1 << 32, 2)),
@@ -305,7 +345,7 @@ def of_rust():
     return passed, BUILT / "rust/release/examples/screen"
 
 
-FUNCTIONS = ("empty", "begin", "begin_conjunction", "add", "read", "advise", "to_decimal", "run")
+FUNCTIONS = ("empty", "begin", "begin_conjunction", "add", "read", "advise", "to_decimal", "divide", "run")
 
 
 def of_another_version():
@@ -317,7 +357,7 @@ def of_another_version():
     output(["gcc", "-c", folder / "own.c", "-o", folder / "own.o"])
     output(["ar", "rc", folder / "libjinthuol.a", folder / "own.o"])
     environment = {**os.environ, "JINTHUOL_LIB_DIR": str(folder), "CARGO_TARGET_DIR": str(folder / "rust")}
-    tests = [["test", "--test", "calls", name] for name in ("brackets", "decimals")]
+    tests = [["test", "--test", "calls", name] for name in ("brackets", "decimals", "divisions")]
     for command in ["run", "--example", "screen", EXAMPLES[0]], *tests:
         command = ["cargo", command[0], "--offline", "--locked", *map(str, command[1:])]
         ended = subprocess.run(command, cwd=BINDINGS / "rust", env=environment, capture_output=True, timeout=LONGEST_RUN)
@@ -337,12 +377,14 @@ def main():
     # For bindings/python and bindings/rust.
     os.environ["JINTHUOL_LIB_DIR"] = str(library)
     os.environ.update(CARGO_TARGET_DIR=str(BUILT / "rust"), RUSTFLAGS="-D warnings")
+    sys.path.insert(0, str(BINDINGS / "python"))
     rng = random.Random(arguments.seed)
     compared = of_c(rng, library)
     tests, rust = of_rust()
     count, calls = of_scripts(rng, rust)
+    divisions = of_divisions(rng, library)
     print(
-        f"bindings: {compared} encounters from C and C++, {calls} calls from Python, "
+        f"bindings: {compared} encounters from C and C++, {calls} calls from Python, {divisions} divisions from these, "
         f"{count} scripts from Python and Rust, {tests} tests of Rust, 0 disagreements"
     )
 

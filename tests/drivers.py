@@ -396,3 +396,27 @@ fn main() {
     }
 }
 """
+
+# The division. Reads records of 13 bytes: the direction (1 for U), then m, e and the divisor, little-endian. Writes the
+# refusal's number, and m and e of the quotient.
+DIVISION = """\
+mod words;
+use crate::words::put;
+use crate::words::put_scaled;
+use crate::words::signed;
+use crate::words::word;
+use division::divide;
+use exact::Scaled;
+
+fn main() {
+    let mut b = [0u8; 13];
+    let mut line = [10u8; 25];
+    while io::read_full(0, &mut b) == 13 {
+        let x = Scaled { m: word(&b, 1), e: signed(word(&b, 5)) };
+        let a = divide(b[0] == 1, x, word(&b, 9));
+        let next = put(&mut line, 0, a.refusal);
+        put_scaled(&mut line, next, a.quotient);
+        io::write_all(1, &line);
+    }
+}
+"""

@@ -37,6 +37,7 @@ REFUSALS = {
     21: "add or read with no encounter begun",
     22: "add: N + count above 4,096",
     23: "read: 2M above N + 2",
+    10: "divide: divisor 0, number not in the scaled form, or e below −1,000,000,000",
 }
 
 

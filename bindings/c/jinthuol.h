@@ -8,6 +8,7 @@
  *     jinthuol_answer answer = jinthuol_read(session);          both ends, the class, object and time (0 here), exact_terms: 1
  *     jinthuol_to_decimal(false, answer.lower)                  7647 and 2: at least 7.647e-02
  *     jinthuol_to_decimal(true, answer.upper)                   7648 and 2: at most 7.648e-02
+ *     jinthuol_divide(true, answer.upper, 3)                    0 and 3503497447 x 2^-37: a third of the upper end, rounded up
  *     jinthuol_conjunction conjunction = {test_1, 25544, 1440}; object 25544, at minute 1440
  *     jinthuol_begin_conjunction(&session, conjunction);        N is 1; reads answer 25544 and 1440
  *
@@ -28,9 +29,11 @@
  *     21  add or read with no encounter begun              (add, read, advise)
  *     22  add: N + count above 4,096                       (add)
  *     23  read: 2M above N + 2                             (read)
+ *     10  divide: divisor 0, number not in the scaled form, or e below -1,000,000,000   (divide)
  *
  * 7 in plain words: (xm/sx)^2 + (ym/sy)^2 + (R/sy)^2, which is 2t, is above 128; t is rounded up first. 9: `kind 4` is the record of a script that asks
- * for begin_conjunction. 23: too few terms are added for the bound of those left out; a read needs N of at least 2M - 2. README.md has examples.
+ * for begin_conjunction. 23: too few terms are added for the bound of those left out; a read needs N of at least 2M - 2. 10: the scaled form is that of jinthuol_scaled
+ * below; every number that the library answers has it, and none of those has so low an e. README.md has examples.
  *
  * What a caller sees to. No pointer may be null, also where its length is 0. C converts a number to the type of its parameter or field without a word:
  * test first that it fits.
@@ -52,7 +55,7 @@ extern "C" {
 #endif
 
 /* One more with each change of a struct or a function of this header, or of what a function answers. */
-#define JINTHUOL_VERSION 6
+#define JINTHUOL_VERSION 7
 
 /* The five inputs, in whole centimetres: combined radius R, larger standard deviation sx, smaller sy, mean miss xm and ym, along the principal axes of
  * the covariance in the encounter plane. */
@@ -113,6 +116,12 @@ typedef struct {
     uint32_t order;
 } jinthuol_advice;
 
+/* The refusal's number, or 0; then the quotient, which is zero where it is refused. */
+typedef struct {
+    uint32_t refusal;
+    jinthuol_scaled quotient;
+} jinthuol_divided;
+
 /* The bytes of the buffer that are used, and whether they are the whole listing. */
 typedef struct {
     size_t used;
@@ -150,6 +159,11 @@ jinthuol_advice jinthuol_advise(jinthuol_session session);
  * So an upper end that prints as 1.000e-00 may be far above 1: look at the end itself. It takes any m and e, also those that no read gives: zero is 0.000e-00,
  * and another number too small for the table of powers of ten (below about 10^-43) is 0.000e-00 as a lower end and 1.000e-43 as an upper one. */
 jinthuol_decimal jinthuol_to_decimal(bool up, jinthuol_scaled number);
+
+/* A number divided by a whole number. The quotient is a scaled number: the greatest not above the exact quotient, or where up is true the least not below it. So
+ * take false for a `lower` and true for an `upper`, and the divided probability lies between. It takes any m and e: refused as 10 where divisor is 0, where the number
+ * is not in the scaled form (m above 0 and below 2^31, or m = 0 with an e other than 0), or where e is below -1,000,000,000. */
+jinthuol_divided jinthuol_divide(bool up, jinthuol_scaled number, uint32_t divisor);
 
 /* The listing of a script of records, on a session of its own; `0 refused 8` where the script has more than 65,536 bytes.
  * A line is written only while 150 bytes of the buffer are left; where fewer are left before the listing's end, it is cut between two lines

@@ -55,6 +55,13 @@ A session advises an order that is enough, where M is not above 256:
     >>> print(*session.read().decimals)
     7.647e-02 7.648e-02
 
+An end divided by a whole number is again a bracket's end, where the lower one is rounded down and the upper one up:
+
+    >>> print(session.read().lower.divided_down(3), session.read().upper.divided_up(3), sep=" to ")
+    3503496921 × 2^-37 to 3503497447 × 2^-37
+    >>> print(session.read().upper.divided_up(0))
+    refused 10: divide: divisor 0, number not in the scaled form, or e below −1,000,000,000
+
 The library libjinthuol.a is in the folder that JINTHUOL_LIB_DIR names, else in target/staticlib of the repository,
 where `rt staticlib jinthuol` writes it. At the first import gcc links it into a shared object beside it,
 libjinthuol.so; later imports take that. Where there is no library, or it cannot be linked or is of another version,
@@ -73,7 +80,7 @@ from fractions import Fraction
 from typing import NamedTuple
 
 # JINTHUOL_VERSION of bindings/c/jinthuol.h.
-VERSION = 6
+VERSION = 7
 
 # The condition of each refusal. 1, 2 and 8 are in listings only.
 REFUSALS = {
@@ -86,6 +93,7 @@ REFUSALS = {
     7: "upper t above 64",
     8: "script file longer than 65,536 bytes",
     9: "kind 4: object number is 0",
+    10: "divide: divisor 0, number not in the scaled form, or e below −1,000,000,000",
     21: "add or read with no encounter begun",
     22: "add: N + count above 4,096",
     23: "read: 2M above N + 2",
@@ -156,9 +164,16 @@ class Decimal(Struct):
 
 
 class Scaled(Struct):
-    """m × 2^e: m from 2^31 to 2^32 − 1, or zero as m = 0 and e = 0."""
+    """m × 2^e: m from 2^31 to 2^32 − 1, or zero as m = 0 and e = 0.
+
+    Made by hand it may have another m or e; one that does not fit its type raises struct.error.
+    """
 
     _fields_ = [("m", c_uint32), ("e", c_int32)]
+
+    def __init__(self, m=0, e=0):
+        struct.pack("=Ii", m, e)
+        super().__init__(m, e)
 
     @property
     def fraction(self):
@@ -188,6 +203,26 @@ class Scaled(Struct):
         1.000e-43 where it is too small for the table of powers of ten, which no end of a read is; 0.000e-00 for zero.
         """
         return LIBRARY.jinthuol_to_decimal(True, self)
+
+    def divided_down(self, divisor):
+        """A Divided: this by a whole number, rounded down, as for a lower end.
+
+        The quotient is the greatest scaled number that is not above the exact one. Refused as 10 where the divisor is
+        0, where this is no scaled number, or where e is below −1,000,000,000. No end of a read meets the last two. A
+        divisor that does not fit 32 bits raises struct.error.
+        """
+        return self.divided(False, divisor)
+
+    def divided_up(self, divisor):
+        """A Divided: this by a whole number, rounded up, as for an upper end.
+
+        The quotient is the least scaled number that is not below the exact one. Refused as divided_down is.
+        """
+        return self.divided(True, divisor)
+
+    def divided(self, up, divisor):
+        struct.pack("=I", divisor)
+        return LIBRARY.jinthuol_divide(up, self, divisor)
 
     def rounded(self, up):
         # m has 32 bits and a float 53: only e can be too small or too large.
@@ -283,6 +318,15 @@ class Advice(Struct):
         return f"order {self.order}" if self.has_order else "no order: M above 256"
 
 
+class Divided(Struct):
+    """The refusal's number, or 0; then the quotient, which is zero where it is refused."""
+
+    _fields_ = [("refusal", c_uint32), ("quotient", Scaled)]
+
+    def __str__(self):
+        return refused(self.refusal) if self.refusal else str(self.quotient)
+
+
 class Kept(Struct):
     """What a session keeps. Only the library writes it."""
 
@@ -344,6 +388,7 @@ def load():
         ("read", Answer, Kept),
         ("advise", Advice, Kept),
         ("to_decimal", Decimal, c_bool, Scaled),
+        ("divide", Divided, c_bool, Scaled, c_uint32),
         ("run", Listing, c_char_p, c_size_t, POINTER(c_char), c_size_t),
     ):
         function = getattr(library, f"jinthuol_{name}")

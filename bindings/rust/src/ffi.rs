@@ -30,8 +30,15 @@ pub struct Advice {
     pub order: u32,
 }
 
-// `safe`: the types of these eight say all that they trust, but that the library has this crate's
-// version, which `Session::empty`, `run_into` and the decimals test first. A reference is valid, and not shared while
+/// The refusal's number, or 0; then the quotient, zero where it is refused.
+#[repr(C)]
+pub struct Divided {
+    pub refusal: u32,
+    pub quotient: Scaled,
+}
+
+// `safe`: the types of these nine say all that they trust, but that the library has this crate's
+// version, which `Session::empty`, `run_into`, the decimals and the divisions test first. A reference is valid, and not shared while
 // it is lent. A `Session` came from these calls, since nothing else writes its private field.
 unsafe extern "C" {
     /// Trusts nothing.
@@ -57,6 +64,9 @@ unsafe extern "C" {
 
     /// Trusts nothing. Any m and e will do.
     pub safe fn jinthuol_to_decimal(up: bool, number: Scaled) -> Decimal;
+
+    /// Trusts nothing. Any m, e and divisor will do.
+    pub safe fn jinthuol_divide(up: bool, number: Scaled, divisor: u32) -> Divided;
 
     /// Trusts that both pointers are valid for their lengths, for reads and for writes, that the
     /// bytes do not overlap, and that no pointer is null, also where its length is 0. Any bytes

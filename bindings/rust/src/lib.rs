@@ -66,6 +66,21 @@
 //! # Ok::<(), Refusal>(())
 //! ```
 //!
+//! An end divided by a whole number is again a bracket's end, where the lower one is rounded down and the upper one up:
+//!
+//! ```
+//! use jinthuol::{Encounter, Refusal, Session};
+//!
+//! let mut session = Session::empty();
+//! session.begin(Encounter { R: 500, sx: 5000, sy: 100, xm: 1000, ym: 0 })?;
+//! session.add(54)?;
+//! let answer = session.read()?;
+//! let third = (answer.lower.divided_down(3)?, answer.upper.divided_up(3)?);
+//! assert_eq!(format!("{} to {}", third.0, third.1), "3503496921 × 2^-37 to 3503497432 × 2^-37");
+//! assert_eq!(answer.lower.divided_down(0), Err(Refusal(10)));
+//! # Ok::<(), Refusal>(())
+//! ```
+//!
 //! A session cannot be put together from numbers:
 //!
 //! ```compile_fail,E0451
@@ -77,6 +92,8 @@
 mod answer;
 #[forbid(unsafe_code)]
 mod decimal;
+#[forbid(unsafe_code)]
+mod division;
 #[allow(unsafe_code)]
 mod ffi;
 #[forbid(unsafe_code)]
@@ -93,15 +110,15 @@ pub use script::{run, run_into, Listing};
 pub use session::{Conjunction, Encounter, Session};
 
 /// The version of the library's functions that this crate is for: JINTHUOL_VERSION of bindings/c/jinthuol.h.
-pub const VERSION: u32 = 6;
+pub const VERSION: u32 = 7;
 
 /// The version of the library that this crate was linked with. Where it is not [`VERSION`], [`Session::empty`],
-/// [`run`], [`run_into`] and the decimals of a [`Scaled`] panic: the structs may be others.
+/// [`run`], [`run_into`], and the decimals and divisions of a [`Scaled`] panic: the structs may be others.
 pub fn library_version() -> u32 {
     ffi::jinthuol_version()
 }
 
-/// Every session, every listing and every decimal starts here.
+/// Every session, every listing, every decimal and every division starts here.
 fn assert_version() {
     assert_eq!(library_version(), VERSION, "libjinthuol.a is of another version than this crate");
 }

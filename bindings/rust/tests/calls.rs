@@ -257,7 +257,7 @@ fn a_clone_is_a_session_of_its_own() {
 #[test]
 fn refusals_in_words() {
     assert_eq!(Refusal(7).to_string(), "refused 7: upper t above 64");
-    for number in [1, 2, 3, 4, 5, 6, 7, 8, 9, 21, 22, 23] {
+    for number in [1, 2, 3, 4, 5, 6, 7, 8, 9, 10, 21, 22, 23] {
         assert!(!Refusal(number).to_string().contains("no such"));
     }
     assert_eq!(Refusal(20).to_string(), "refused 20: no such refusal");
@@ -293,6 +293,43 @@ fn decimals() {
         assert_eq!(found, (down.into(), up.into()), "{number}");
     }
     assert_eq!((Scaled { m: 1 << 31, e: -34 }).decimal_down(), Decimal { digits: 1250, power: 1 });
+}
+
+/// Request #107 at its edges: rounded down and rounded up.
+#[test]
+fn divisions() {
+    const HALF: u32 = 1 << 31;
+    const FULL: u32 = u32::MAX;
+    for (m, e, divisor, down, up) in [
+        (HALF, -31, 1, (HALF, -31), (HALF, -31)),
+        (HALF, -31, 2, (HALF, -32), (HALF, -32)),
+        (HALF, -31, 3, (2863311530, -33), (2863311531, -33)),
+        (2627622691, -35, 3, (3503496921, -37), (3503496922, -37)),
+        (FULL, 0, FULL, (HALF, -31), (HALF, -31)),
+        (HALF, 0, FULL, (HALF, -32), (HALF + 1, -32)),
+        (FULL - 1, 0, FULL, (FULL - 1, -32), (FULL, -32)),
+        (HALF, i32::MAX, 1, (HALF, i32::MAX), (HALF, i32::MAX)),
+        (FULL, i32::MAX, 3, (2863311530, i32::MAX - 1), (2863311530, i32::MAX - 1)),
+        (HALF, -1_000_000_000, FULL, (HALF, -1_000_000_032), (HALF + 1, -1_000_000_032)),
+        (0, 0, 7, (0, 0), (0, 0)),
+    ] {
+        let number = Scaled { m, e };
+        let of = |(m, e)| Ok(Scaled { m, e });
+        assert_eq!((number.divided_down(divisor), number.divided_up(divisor)), (of(down), of(up)), "{number} / {divisor}");
+    }
+    for (m, e, divisor) in [
+        (HALF, 0, 0),
+        (0, 0, 0),
+        (0, 1, 1),
+        (0, -1, 1),
+        (1, 0, 1),
+        (HALF - 1, 0, 1),
+        (HALF, -1_000_000_001, 1),
+        (FULL, i32::MIN, FULL),
+    ] {
+        let number = Scaled { m, e };
+        assert_eq!((number.divided_down(divisor), number.divided_up(divisor)), (Err(Refusal(10)), Err(Refusal(10))), "{number:?} / {divisor}");
+    }
 }
 
 /// The f64 of a number is the number, and there is none just where no f64 is.

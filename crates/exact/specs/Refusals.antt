@@ -116,6 +116,6 @@ refusal w (bad r) = r
 unfoldable pub scaled-form : Scaled → Bool
 scaled-form x = cond (eqb (x .m) 0) (eqb (natAbs (x .e)) 0) (leb (2 ^ 31) (x .m) && ltb (x .m) (2 ^ 32))
 
--- 10: a division by a whole number: divisor 0, number not in the scaled form, or its e below −1,000,000,000
+-- 10: divide: divisor 0, number not in the scaled form, or e below −1,000,000,000
 unfoldable pub refuses-10 : Scaled → (divisor : ℕ) → Bool
 refuses-10 x divisor = eqb divisor 0 || not (scaled-form x) || ltb lowest-exponent (negPart (x .e))

@@ -23,7 +23,7 @@ stop-requires-2 : tie.Need-stop-requires-2
 stop-requires-2 c κs = search needs
 
 returns-2 : tie.Need-returns-2
-returns-2 c = let z = c .before .before .before .before .before .before in stopped (now (z .args .script)) (z .args .at) (z .args .s) (z .pre) 2 _ (λ e. omega arith) (begin-short _ _ (c .before .before .before .before .if1 .left) (c .before .before .if2 .taken) (c .before .if3 .taken)) (c .stop2 .ensures)
+returns-2 c = let z = c .before .before .before .before .before .before in stopped (now (z .args .script)) (z .args .at) (z .args .s) (z .pre) 2 _ (λ e. omega arith) (begin-short _ _ (c .before .before .before .before .if1 .left) (c .before .before .if2 .taken) (omega (arith, c .before .if3 .taken))) (c .stop2 .ensures)
 
 take-begin-requires : tie.Need-take-begin-requires
 take-begin-requires c κs = search needs
