@@ -5,7 +5,8 @@
 
 #include "jinthuol.h"
 
-/* What jinthuol_divide answers. */
-jinthuol_divided same_divided(bool up, jinthuol_scaled x, uint32_t k);
+/* What jinthuol_divide answers: the refusal's number, or 0; the quotient is written to *quotient. It is not returned in a struct of three words:
+   gcc 12 forms that in memory, which took longer than the division itself (AMD EPYC). */
+uint32_t same_divide(bool up, jinthuol_scaled x, uint32_t k, jinthuol_scaled *quotient);
 
 #endif

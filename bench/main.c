@@ -288,8 +288,10 @@ static void print_advice(void)
 static int equal_divisions(jinthuol_scaled x, uint32_t k)
 {
     for (int up = 0; up < 2; up++) {
-        jinthuol_divided found = same_divided(up, x, k), due = jinthuol_divide(up, x, k);
-        if (found.refusal != due.refusal || found.quotient.m != due.quotient.m || found.quotient.e != due.quotient.e) {
+        jinthuol_scaled found;
+        uint32_t refusal = same_divide(up, x, k, &found);
+        jinthuol_divided due = jinthuol_divide(up, x, k);
+        if (refusal != due.refusal || found.m != due.quotient.m || found.e != due.quotient.e) {
             printf("divisions of %" PRIu32 " %" PRId32 " by %" PRIu32 " differ\n", x.m, x.e, k);
             return 0;
         }
@@ -343,11 +345,11 @@ static void print_divisions(void)
     printf("\nA division, proved and in C\n  %-11s %9s %9s  /same\n", "", "proved", "same");
     for (size_t i = 0; i < sizeof divisions / sizeof divisions[0]; i++) {
         bool up = divisions[i].up;
-        jinthuol_scaled number = divisions[i].number;
+        jinthuol_scaled number = divisions[i].number, quotient;
         uint32_t divisor = divisions[i].divisor;
         for (int round = 0; round < ROUNDS; round++) {
             found[0][round] = NANOSECONDS(1024, LEAST, sink = jinthuol_divide(up, number, divisor).quotient.m);
-            found[1][round] = NANOSECONDS(1024, LEAST, sink = same_divided(up, number, divisor).quotient.m);
+            found[1][round] = NANOSECONDS(1024, LEAST, (same_divide(up, number, divisor, &quotient), sink = quotient.m));
         }
         printf("  %-11s %9.1f %9.1f  %5.2f\n", divisions[i].name, median(found[0]), median(found[1]), ratio(found[0], found[1]));
     }

@@ -17,6 +17,7 @@ import struct
 import sys
 
 sys.dont_write_bytecode = True
+import library
 import make
 
 CLASSES = {
@@ -54,12 +55,7 @@ def not_read(path, why):
 
 def main():
     inputs, path = arguments()
-    sys.path.insert(0, str(pathlib.Path(__file__).resolve().parent.parent / "bindings/python"))
-    try:
-        import jinthuol
-    except ImportError as error:
-        sys.exit(f"advised-order.py: {error}")
-
+    jinthuol = library.load("advised-order.py")
     session = jinthuol.Session.empty()
     begun = session.begin(jinthuol.Encounter(*inputs))
     advice = session.advise()

@@ -75,6 +75,9 @@ FIVE_EXACT = 3, 4, 3, 8, 0
 NONE_EXACT = 1, 3, 1, 0, 0
 ROUNDED_B = 131071, 131072, 131071, 0, 0
 
+# Of no document: three solutions of one encounter.
+SOLUTIONS = (1000, 30000, 15000, 20000, 28000), (1000, 30000, 15000, 20000, 40000), (1000, 30000, 15000, -24000, 36000)
+
 SCRIPTS = {
     "test-1": begin(*TEST_1) + reads_at(35, 36, 55, 101),
     "chan-1": begin(*CHAN_1) + reads_at(1, 5, 49),
@@ -143,6 +146,7 @@ SCRIPTS = {
     + reads_at(13)
     + begin(*ALFANO_3)
     + reads_at(597, 911),
+    "equal-weights": b"".join(begin_conjunction(solution, 31140, 1015) + reads_at(13) for solution in SOLUTIONS),
 }
 
 

@@ -1,5 +1,6 @@
 #!/usr/bin/env python3
-"""Runs the commands of README.md and examples/advised-order.md as they stand there, and compares what they print.
+"""Runs the commands of README.md, examples/advised-order.md and examples/equal-weights.md as they stand there, and
+compares what they print.
 
     python3 tests/readme.py
 
@@ -8,21 +9,28 @@ After `rt check screen` and `rt staticlib jinthuol`. What is built goes to targe
 
 import decimal
 import doctest
+import itertools
+import math
 import re
 import subprocess
 import sys
 from decimal import Decimal
+from itertools import starmap
 
 sys.dont_write_bytecode = True
+import division
 import options
 import orders
 import records
+import scaled
 from brackets import as_float
 from checks import Checks
 from encounters import ASTRIDE, DOCUMENTS, TEST_1
 from exact_series import Encounter
 from markdown import blocks, section
 from options import ROOT
+from reference import REFUSALS
+from scaled import Scaled
 
 # Seconds for one command.
 LONGEST_RUN = 120
@@ -65,13 +73,15 @@ def of_c(lines):
         read = orders.at_order(encounter, orders.advised(encounter)).read()
         ends = f"{as_float(read.lower):.9g} to {as_float(read.upper):.9g}"
         due.append(f"advised {read.N}, read at {read.N}: about {ends}")
+        thirds = [division.divided(up, Scaled(*end), 3) for up, end in ((False, read.lower), (True, read.upper))]
+        due.append("a third: about {:.9g} to {:.9g}".format(*(as_float(third.quotient) for third in thirds)))
         main = "\n".join(code).replace(braced(TEST_1), braced(encounter))
         checks.check(braced(encounter) in main, "commands", f"no encounter {encounter} in the lines of C")
         source.write_text("\n".join(["#include <math.h>", "#include <stdio.h>", header, "int main(void) {", main, "}"]))
         prints(f"{compiler} -o {program}", [])
         prints(str(program), due)
         told = [line for line in due[2:] if f"prints `{line}`" in section("From C and C++")]
-        checks.check(len(told) == (2 if encounter == TEST_1 else 0), "commands", f"what README says is printed: {told}")
+        checks.check(len(told) == (3 if encounter == TEST_1 else 0), "commands", f"what README says is printed: {told}")
 
 
 def of_advised_order():
@@ -102,9 +112,65 @@ def of_advised_order():
     ]
     program, inputs = "python3 examples/advised-order.py", " ".join(map(str, ASTRIDE))
     prints(f"{program} {inputs}", due)
-    for wrong in "", "1 2 3 4", "1 2 3 4 x", "-1 2 2 0 0", f"{1 << 32} 2 2 0 0", f"{inputs} --script target/none/of":
+    is_wrong_use(
+        program,
+        ("", "1 2 3 4", "1 2 3 4 x", "-1 2 2 0 0", f"{1 << 32} 2 2 0 0", f"{inputs} --script target/none/of"),
+    )
+
+
+def is_wrong_use(program, lines):
+    """The program's status is 2 with each, and it says something on standard error."""
+    for wrong in lines:
         ended = subprocess.run(f"{program} {wrong}", shell=True, cwd=ROOT, capture_output=True, text=True)
         checks.check(ended.returncode == 2 and ended.stderr, "commands", f"{wrong}: {ended.returncode} {ended.stdout}")
+
+
+def of_equal_weights():
+    """examples/equal-weights.py, as its text has it, with ends and quotients by the references."""
+    parts = blocks((ROOT / "examples/equal-weights.md").read_text())
+    for [command], due in zip(parts[::2], parts[1::2], strict=True):
+        numbers = list(map(int, command.split()[2:]))
+        solutions = [Encounter(*numbers[at : at + 5]) for at in range(0, len(numbers), 5)]
+        lines, refusal = as_weighted(solutions)
+        checks.check(lines == due, "commands", f"{command}\n  text: {due}\n   due: {lines}")
+        prints(command, due, status=1 if refusal else 0)
+    program, inputs = "python3 examples/equal-weights.py", " ".join(map(str, TEST_1))
+    lines, _ = as_weighted([TEST_1])
+    prints(f"{program} {inputs}", lines)
+    lines, _ = as_weighted([TEST_1, DOCUMENTS["Alfano 3"]])
+    prints(f"{program} {inputs} {' '.join(map(str, DOCUMENTS['Alfano 3']))}", lines, status=1)
+    is_wrong_use(program, ("", "1 2 3 4", f"{inputs} 1", "1 2 3 4 x", "-1 2 2 0 0", f"{1 << 32} 2 2 0 0"))
+
+
+def as_weighted(solutions):
+    """What examples/equal-weights.py prints of the solutions, and whether one of them is not read."""
+    lines, sums = [], [0, 0]
+    for n, encounter in enumerate(solutions, 1):
+        begun = orders.begun(encounter)
+        order = begun and orders.advised(encounter)
+        if not order:
+            refused = REFUSALS[7]
+            why = "no order is advised, since M is above 256." if begun else f"the begin was refused 7: {refused}."
+            lines.append(f"Solution {n}: {why}")
+            lines.append("Not computed: it needs every solution. A refusal says nothing about the probability.")
+            return lines, True
+        read = orders.at_order(encounter, order).read()
+        ends = list(zip((False, True), (Scaled(*read.lower), Scaled(*read.upper))))
+        quotients = [(up, division.divided(up, end, len(solutions)).quotient) for up, end in ends]
+        lines.append("Solution {}: from {} to {}, {}.".format(n, *starmap(records.decimal_text, ends), read.class_name))
+        words = "  Divided by {}: from {} to {}.".format(len(solutions), *starmap(records.decimal_text, quotients))
+        lines.append(words)
+        sums = [total + scaled.value(quotient) for total, (_, quotient) in zip(sums, quotients)]
+    texts = [in_digits(up, total) for up, total in zip((False, True), sums)]
+    lines.append("Over all {}: the probability is from {} to {}.".format(len(solutions), *texts))
+    return lines, False
+
+
+def in_digits(up, q):
+    """Four significant digits of a q below 1, outward, by whole numbers."""
+    power = next(k for k in itertools.count(1) if q * 10**k >= 1)
+    whole = math.ceil(q * 10 ** (power + 3)) if up else math.floor(q * 10 ** (power + 3))
+    return f"{whole // 1000}.{whole % 1000:03}e-{power:02}"
 
 
 def main():
@@ -117,7 +183,8 @@ def main():
     prints(command, [str(Decimal(m) * Decimal(5) ** -e * Decimal(10) ** e)])
     _, [command], listing = blocks(section("A script, byte by byte"))
     prints(command, listing)
-    [archive, *compilers, command], due, [header], code, with_object, as_advised = blocks(section("From C and C++"))
+    [archive, *compilers, command], due, [header], *code = blocks(section("From C and C++"))
+    checks.check(len(code) == 4, "commands", f"the parts of C: {len(code)}")
     checks.check(archive == "rt staticlib jinthuol", "commands", f"the library: {archive}")
     command_with_object, command_as_advised = re.findall(r"`(echo .+? \| target/example)`", section("From C and C++"))
     programs = [compiler.split()[-1] for compiler in compilers]
@@ -129,14 +196,14 @@ def main():
         prints(command_with_object.replace(programs[0], program), due_with_object)
         prints(command_as_advised.replace(programs[0], program), due_as_advised())
     checks.check(command.endswith(programs[0]) and len(set(programs)) == 2, "commands", f"the programs: {programs}")
-    of_c([header, *code, *with_object, *as_advised])
+    of_c([header, *sum(code, [])])
     [[command]] = blocks(section("From Rust"))
     prints(command, LISTING)
-    [command, interpreter], example, with_object, as_advised = blocks(section("From Python"))
+    [command, interpreter], *example = blocks(section("From Python"))
     prints(command, LISTING)
     checks.check(interpreter == "PYTHONPATH=bindings/python python3", "commands", f"the interpreter: {interpreter}")
     sys.path.insert(0, str(ROOT / "bindings/python"))
-    lines = "\n".join(example + with_object + as_advised) + "\n"
+    lines = "\n".join(sum(example, [])) + "\n"
     test = doctest.DocTestParser().get_doctest(lines, {}, "README.md", None, 0)
     runner = doctest.DocTestRunner()
     runner.run(test)
@@ -145,6 +212,7 @@ def main():
 
     checks.check(doctest.testmod(jinthuol).failed == 0, "commands", "the example of the module")
     of_advised_order()
+    of_equal_weights()
     checks.end()
 
 

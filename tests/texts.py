@@ -17,6 +17,7 @@ from fractions import Fraction
 sys.dont_write_bytecode = True
 import advice
 import brackets
+import division
 import edges
 import exact_series
 import fields
@@ -423,6 +424,26 @@ def of_printed_examples():
         last = [*last, 0] if word == "begun" else [*last[:-1], int(N)]
     same("examples", "shift, the last reads", last, list(map(orders.advised, encounters_of(script))))
     of_advised_order()
+    of_equal_weights()
+
+
+def of_equal_weights():
+    """What examples/equal-weights.md says of the first solution's ends and their thirds, and of the mean."""
+    text, lines = of_printed_lines("equal-weights")
+    reads = [records.printed(line) for line in lines.values() if line.split()[1] == "read"]
+    ends = [scaled.Scaled(*end) for end in (reads[0].lower, reads[0].upper)]
+    thirds = [division.divided(up, end, 3).quotient for up, end in zip((False, True), ends)]
+    said = [scaled.Scaled(int(m), int(e)) for m, e in re.findall(r"(\d+) × 2\^(-\d+)", text)]
+    same("examples", "equal-weights, the thirds", said, [ends[0], thirds[0], ends[1], thirds[1]])
+    exact = [scaled.value(third) == scaled.value(end) / 3 for third, end in zip(thirds, ends)]
+    same("examples", "equal-weights: no number of 32 bits is a third", exact, [False, False])
+    mean = sum(value(read.upper) for read in reads) / 3
+    alerts = [read.class_name for read in reads].count("alert")
+    words = "It is below 1/10,000, although one solution alone is an alert."
+    same("examples", f"equal-weights: {words}", (words in text, mean < Fraction(1, 10_000), alerts), (True, True, 1))
+    limits = "an e from −1,000,000,000 to 2,147,483,647 and every divisor from 1 to 4,294,967,295"
+    due = f"an e from −{-division.LOWEST:,} to {edges.HIGH:,} and every divisor from 1 to {edges.MOST_32:,}"
+    same("examples", "equal-weights, the limits", (limits, limits in text), (due, True))
 
 
 def of_advised_order():

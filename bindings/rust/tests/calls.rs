@@ -315,7 +315,11 @@ fn divisions() {
     ] {
         let number = Scaled { m, e };
         let of = |(m, e)| Ok(Scaled { m, e });
-        assert_eq!((number.divided_down(divisor), number.divided_up(divisor)), (of(down), of(up)), "{number} / {divisor}");
+        assert_eq!(
+            (number.divided_down(divisor), number.divided_up(divisor)),
+            (of(down), of(up)),
+            "{number} / {divisor}"
+        );
     }
     for (m, e, divisor) in [
         (HALF, 0, 0),
@@ -328,7 +332,11 @@ fn divisions() {
         (FULL, i32::MIN, FULL),
     ] {
         let number = Scaled { m, e };
-        assert_eq!((number.divided_down(divisor), number.divided_up(divisor)), (Err(Refusal(10)), Err(Refusal(10))), "{number:?} / {divisor}");
+        assert_eq!(
+            (number.divided_down(divisor), number.divided_up(divisor)),
+            (Err(Refusal(10)), Err(Refusal(10))),
+            "{number:?} / {divisor}"
+        );
     }
 }
 

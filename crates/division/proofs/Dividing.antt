@@ -23,9 +23,10 @@ use Rattle.division.specs.Claims.{Claims}
 use Rattle.division.proofs.Refusing.{form-is, form-of, passed-is}
 use Rattle.division.proofs.Moving.{moved, moves, still-fits}
 use Rattle.division.proofs.Never.{never-met}
+use Rattle.division.proofs.Ends.{divides-ends}
 
 claims : Claims
-claims = record { form = λ x. (form-is x, form-of x); never-met = never-met }
+claims = record { form = λ x. (form-is x, form-of x); never-met = never-met; ends = λ r k p. divides-ends r k p }
 
 -- all that `divide` promises of its answer r
 abbrev pub Promised : Bool → Scaled → ℕ → Divided → Type 0
