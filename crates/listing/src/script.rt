@@ -6,9 +6,7 @@ ghost use mathlib.Core.Path.{_≡_};
 use crate::ROOM;
 use crate::put_line;
 use encounter::state::Answer;
-use encounter::state::Class;
 use encounter::state::Session;
-use exact::Scaled;
 use records::take_record;
 
 // The bytes of the buffer that are used, the next position and the session there, and whether the listing is at its end.
@@ -74,15 +72,5 @@ pub fn put_lines(script: &[u8], at: usize, s: Session, out: &mut [u8]) -> Piece
 pub fn put_too_long(out: &mut [u8]) -> usize
     ensures { λ r. ⌜ PutLine (now (out .entry)) (now (out .exit)) 0 0 0 too-long r ⌝ }
 {
-    let answer = Answer {
-        refusal: 8,
-        N: 0,
-        lower: Scaled::ZERO,
-        upper: Scaled::ZERO,
-        class: Class::Clear,
-        object: 0,
-        time: 0,
-        exact: 0,
-    };
-    put_line(out, 0, 0, 0, answer)
+    put_line(out, 0, 0, 0, Answer::refused(8))
 }
