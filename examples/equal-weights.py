@@ -38,10 +38,15 @@ def arguments():
 
 
 def in_digits(up, q):
-    """A fraction in four significant digits: rounded down, or where up is true up."""
+    """A fraction in four significant digits, rounded down, or where up is true up; 1.000e-00 where it is 1 or more.
+
+    So the library prints an end.
+    """
+    if q >= 1:
+        return "1.000e-00"
     rounding = decimal.ROUND_CEILING if up else decimal.ROUND_FLOOR
     quotient = decimal.Context(prec=4, rounding=rounding).divide(decimal.Decimal(q.numerator), q.denominator)
-    return f"{float(quotient):.3e}"
+    return f"{float(quotient):.3e}" if quotient < 1 else "1.000e-00"
 
 
 def not_read(why):
@@ -66,6 +71,7 @@ def main():
         session.add(order - begun.N)
         # At the advised order no read is refused: that is proved.
         read = session.read()
+        # Nor is a division of an end of a read, by a divisor above 0.
         down, up = read.lower.divided_down(count), read.upper.divided_up(count)
         print(f"Solution {n}: from {read.decimals[0]} to {read.decimals[1]}, {read.class_name}.")
         print(f"  Divided by {count}: from {down.quotient.decimal_down()} to {up.quotient.decimal_up()}.")

@@ -5,9 +5,9 @@
 
 The folder holds the library; `rt staticlib jinthuol` writes it to target/staticlib. Encounters go through
 bindings/c/example.c, compiled as C and as C++; guard.c tries that no call writes past a session. The divisions of
-division.py go through quotients.c, compiled so too, and through bindings/python. The tests of bindings/rust are run. Scripts go through bindings/python and bindings/rust, and their records as calls through
-bindings/python, where every number of the session and its advice are compared too. What is built goes to
-target/bindings. Exits with 1 at the first difference.
+division.py go through quotients.c, compiled so too, and through bindings/python. The tests of bindings/rust are run.
+Scripts go through bindings/python and bindings/rust, and their records as calls through bindings/python, where every
+number of the session and its advice are compared too. What is built goes to target/bindings. Exits with 1 at the first difference.
 """
 
 import itertools
@@ -384,7 +384,7 @@ def main():
     count, calls = of_scripts(rng, rust)
     divisions = of_divisions(rng, library)
     print(
-        f"bindings: {compared} encounters from C and C++, {calls} calls from Python, {divisions} divisions from these, "
+        f"bindings: {compared} encounters from C and C++, {divisions} divisions and {calls} calls from Python too, "
         f"{count} scripts from Python and Rust, {tests} tests of Rust, 0 disagreements"
     )
 

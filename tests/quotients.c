@@ -1,5 +1,5 @@
 /* Divides: reads lines of four numbers, 0 or 1 for the direction, m, e and the divisor, and prints the refusal's number, m and e of each answer. tests/bindings.py runs
- * it. A struct of the header that has padding does not compile here. */
+ * it. With padding in the answer's struct it does not compile. */
 #include <inttypes.h>
 #include <stdio.h>
 

@@ -15,6 +15,7 @@ import re
 import subprocess
 import sys
 from decimal import Decimal
+from fractions import Fraction
 from itertools import starmap
 
 sys.dont_write_bytecode = True
@@ -34,6 +35,8 @@ from scaled import Scaled
 
 # Seconds for one command.
 LONGEST_RUN = 120
+# At its advised order the upper end is a little above 1.
+NEXT_TO_1 = Encounter(8, 1, 1, 0, 0)
 LISTING = (ROOT / "examples/test-1.listing").read_text().splitlines()
 
 checks = Checks("readme")
@@ -135,8 +138,10 @@ def of_equal_weights():
         checks.check(lines == due, "commands", f"{command}\n  text: {due}\n   due: {lines}")
         prints(command, due, status=1 if refusal else 0)
     program, inputs = "python3 examples/equal-weights.py", " ".join(map(str, TEST_1))
-    lines, _ = as_weighted([TEST_1])
-    prints(f"{program} {inputs}", lines)
+    # One solution alone; and two of which one has an upper end above 1.
+    for solutions in [TEST_1], [NEXT_TO_1, TEST_1], [NEXT_TO_1]:
+        lines, _ = as_weighted(solutions)
+        prints(" ".join([program, *(str(number) for inputs in solutions for number in inputs)]), lines)
     lines, _ = as_weighted([TEST_1, DOCUMENTS["Alfano 3"]])
     prints(f"{program} {inputs} {' '.join(map(str, DOCUMENTS['Alfano 3']))}", lines, status=1)
     is_wrong_use(program, ("", "1 2 3 4", f"{inputs} 1", "1 2 3 4 x", "-1 2 2 0 0", f"{1 << 32} 2 2 0 0"))
@@ -167,9 +172,13 @@ def as_weighted(solutions):
 
 
 def in_digits(up, q):
-    """Four significant digits of a q below 1, outward, by whole numbers."""
+    """Four significant digits of q, outward, by whole numbers; 1.000e-00 where q, or what is to be printed, is 1."""
+    if q >= 1 or (up and q > Fraction(9999, 10_000)):
+        return "1.000e-00"
     power = next(k for k in itertools.count(1) if q * 10**k >= 1)
     whole = math.ceil(q * 10 ** (power + 3)) if up else math.floor(q * 10 ** (power + 3))
+    if whole == 10_000:
+        whole, power = 1000, power - 1
     return f"{whole // 1000}.{whole % 1000:03}e-{power:02}"
 
 

@@ -1,4 +1,5 @@
-"""The rounded steps, the session and the calls of document 01, as requests #101 to #106 change them.
+"""The rounded steps, the session and the calls of document 01, as requests #101 to #106 change them; division.py has
+#107.
 
 A number of the steps is a triple (m, e, lost), as in rounded.py: so each number's way is what the steps say. An end is
 a pair (m, e). records.py has the script and its listing.
@@ -24,6 +25,7 @@ EXPONENTIAL_CUT = 256
 THRESHOLD_FACTOR = 10_000
 
 # Both tables of refusals, in their order, with what request #104 adds: "Kind 4 joins the accepted kinds in refusal 1."
+# Then 10, of request #107, which no record meets.
 REFUSALS = {
     8: "script file longer than 65,536 bytes",
     1: "no kind byte, or kind is not 1, 2, 3 or 4",

@@ -6,7 +6,8 @@
 The table of refusals in the definitions, README.md, docs/READING.md, the header, the C example, Rust and Python; the
 session's size and the version in each language; the advised orders in the header; the tables of examples/*.md, whose
 decimals are those of the listings, and what their texts say of orders, lines and bytes; the listing, the bytes and the
-decimals of README.md; the titles of the documents that are cited. Exits with 1 where anything differs.
+decimals of README.md; the titles of the documents that are cited; the files, the names in them and the must-fail edits
+that docs/ names. Exits with 1 where anything differs.
 """
 
 import math
@@ -559,6 +560,37 @@ def of_titles(path, text):
     checks.check(bool(cited), "titles", f"{path} cites no document")
 
 
+# The files that the documents name.
+
+CRATES = "|".join(path.name for path in (ROOT / "crates").iterdir())
+# A file of a crate, and the names before it in the text: '`name`, `name` (crate/specs/File.antt)'.
+FILE = rf"\b(?:crates/)?((?:{CRATES})/(?:src|specs|proofs)/[\w/-]+\.(?:antt|rt))"
+NAMED = rf"((?:`[^`|]+`, )*`[^`|]+`) \({FILE}\)"
+EDIT = rf"(?<![\w/])((?:{CRATES})/(?!src|specs|proofs|stdin|stdout)[A-Za-z]\w*)\b(?![/.\w])"
+
+
+def of_files(path):
+    """Each file of a crate that a text names is there, and has the names that the text says it has."""
+    text = (ROOT / path).read_text()
+    files = set(re.findall(FILE, text))
+    checks.check(len(files) > 10, "files", f"{path} names only {sorted(files)}")
+    for file in sorted(files):
+        checks.check((ROOT / "crates" / file).is_file(), "files", f"{path} names {file}")
+    for names, file in re.findall(NAMED, text):
+        code = (ROOT / "crates" / file).read_text() if (ROOT / "crates" / file).is_file() else ""
+        for name in re.findall(r"`([^`]+)`", names):
+            word = name.split()[0].rsplit("::", 1)[-1]
+            checks.check(word in code, "files", f"{path} has {name} in {file}")
+
+
+def of_edits():
+    """Each must-fail edit that docs/READING.md names is there."""
+    named = set(found_in("docs/READING.md", EDIT))
+    there = {f"{path.parts[-3]}/{path.stem}" for path in (ROOT / "crates").glob("*/must-fail/*.edit")}
+    checks.check(len(named) > 50, "files", f"docs/READING.md names only {len(named)} edits")
+    same("files", "the edits that docs/READING.md names and that are not there", sorted(named - there), [])
+
+
 def main():
     options.parser("Holds texts to document 01 and to the listings.").parse_args()
     of_refusals()
@@ -570,6 +602,9 @@ def main():
     of_lower_ends()
     for path in "docs/READING.md", "docs/DECISIONS.md":
         of_titles(path, (ROOT / path).read_text())
+    for path in "docs/READING.md", "docs/DECISIONS.md", "docs/TRUST.md":
+        of_files(path)
+    of_edits()
     checks.end()
 
 

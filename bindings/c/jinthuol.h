@@ -33,7 +33,7 @@
  *
  * 7 in plain words: (xm/sx)^2 + (ym/sy)^2 + (R/sy)^2, which is 2t, is above 128; t is rounded up first. 9: `kind 4` is the record of a script that asks
  * for begin_conjunction. 23: too few terms are added for the bound of those left out; a read needs N of at least 2M - 2. 10: the scaled form is that of jinthuol_scaled
- * below; every number that the library answers has it, and none of those has so low an e. README.md has examples.
+ * below. Every end and every quotient has it. No end of a read has so low an e; a quotient's e is at most 32 below its number's. README.md has examples.
  *
  * What a caller sees to. No pointer may be null, also where its length is 0. C converts a number to the type of its parameter or field without a word:
  * test first that it fits.

@@ -55,7 +55,7 @@ A session advises an order that is enough, where M is not above 256:
     >>> print(*session.read().decimals)
     7.647e-02 7.648e-02
 
-An end divided by a whole number is again a bracket's end, where the lower one is rounded down and the upper one up:
+The lower end divided down and the upper end divided up, by a whole number, enclose the divided probability:
 
     >>> print(session.read().lower.divided_down(3), session.read().upper.divided_up(3), sep=" to ")
     3503496921 × 2^-37 to 3503497447 × 2^-37

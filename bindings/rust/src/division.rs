@@ -24,6 +24,6 @@ fn divided(up: bool, number: Scaled, divisor: u32) -> Result<Scaled, Refusal> {
     let answer = ffi::jinthuol_divide(up, number, divisor);
     match answer.refusal {
         0 => Ok(answer.quotient),
-        number => Err(Refusal(number)),
+        refusal => Err(Refusal(refusal)),
     }
 }

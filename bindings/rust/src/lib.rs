@@ -66,7 +66,7 @@
 //! # Ok::<(), Refusal>(())
 //! ```
 //!
-//! An end divided by a whole number is again a bracket's end, where the lower one is rounded down and the upper one up:
+//! The lower end divided down and the upper end divided up, by a whole number, enclose the divided probability:
 //!
 //! ```
 //! use jinthuol::{Encounter, Refusal, Session};

@@ -11,15 +11,12 @@ use lib.Dec.{leb}
 use lib.ListN.{length, getD}
 use Rattle.exact.specs.Numbers.{largest-order}
 use Rattle.exact.specs.Series.{factorial}
+use Rattle.exact.proofs.Accepted.{both-true}
 use Rattle.exact.proofs.Fractions.{lt-or-le}
 use Rattle.exact.proofs.Least.{least-is}
 use Rattle.advice.specs.Orders.{largest-M, tail-odds, Enough, Least, Orders}
 use Rattle.advice.specs.Private.Order.{is-enough, order-for}
 use Rattle.advice.proofs.Enough.{small-of, of-small, smaller, later}
-
-both-true : (a b : Bool) → (a && b) ≡ true → (a ≡ true) × (b ≡ true)
-both-true true b h = (refl, h)
-both-true false b h = absurd (true≢false (sym h))
 
 -- ---- the test is true just where both conditions hold
 

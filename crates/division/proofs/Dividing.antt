@@ -45,8 +45,8 @@ module _ (up : Bool) (x : Scaled) (k : ℕ) where
     claims,
   )
 
-  pub of-zero : refuses-10 x k ≡ false → x .m ≡ 0 → Promised up x k (record { refusal = 0; quotient = nought })
-  of-zero h z = answering nought h (sym (over-none up 32 x k z))
+  pub answer-zero : refuses-10 x k ≡ false → x .m ≡ 0 → Promised up x k (record { refusal = 0; quotient = nought })
+  answer-zero h z = answering nought h (sym (over-none up 32 x k z))
 
   -- of a number that is not zero, by the quotient q of its mantissa
   module _ (h : refuses-10 x k ≡ false) (some : x .m ≡ 0 → ⊥) (kl : k < 2 ^ 32) (q : Scaled) (e : q ≡ mantissa-over up (x .m) k) where
@@ -63,5 +63,5 @@ module _ (up : Bool) (x : Scaled) (k : ℕ) where
     pub quotient-fits : SFits w32 (x .e) → SFits w32 (x .e +ℤ q .e)
     quotient-fits f = rw mantissa-is (still-fits up x k normal positive (omega (arith, kl)) f (passed-is x k h .high))
 
-    pub of-normal : Promised up x k (record { refusal = 0; quotient = moved (x .e) q })
-    of-normal = answering (moved (x .e) q) h (ap (moved (x .e)) mantissa-is ∙ sym (moves up x k normal positive (omega (arith, kl))))
+    pub answer-normal : Promised up x k (record { refusal = 0; quotient = moved (x .e) q })
+    answer-normal = answering (moved (x .e) q) h (ap (moved (x .e)) mantissa-is ∙ sym (moves up x k normal positive (omega (arith, kl))))

@@ -1,9 +1,10 @@
 -- No division by a whole number in the steps is refused as 10: beside each number of the steps, its test passes, and the number is the side's own.
 use mathlib.Core.Path.{_≡_, refl}
-use mathlib.Core.Bool.{Bool, true, false}
+use mathlib.Core.Bool.{Bool, true, false, _||_}
 use Prim.Native.Nat.{ℕ, _+_, _*_, _^_, _≤_}
 use native.Mathlib.Nat.{le-trans}
 use native.Mathlib.Omega.{arith}
+use lib.Dec.{lit<}
 use Rattle.exact.specs.declared.Encounter.{Encounter}
 use Rattle.exact.specs.declared.Scaled.{Scaled}
 use Rattle.exact.specs.Numbers.{exponential-cut, largest-order}
@@ -38,18 +39,21 @@ record Fine (B : ℕ) (x : Tested) : Type 0 where
   range : InRange 32 B (x .number)
   passes : B ≤ 2 ^ 28 → x .refused ≡ false
 
+neither-is : {a b : Bool} → a ≡ false → b ≡ false → (a || b) ≡ false
+neither-is h k = rw (h, k)
+
 fine : (up : Bool) → Keeps (tested up) Fine
 unfolding tested
 fine up = record {
   more = λ l h. record { range = widen l (h .range); passes = λ k. h .passes (le-trans l k) };
   fraction = λ n d nl dl dp. record { range = in-range up .fraction n d nl dl dp; passes = λ k. refl };
-  sum = λ h g. record { range = in-range up .sum (h .range) (g .range); passes = λ k. rw (h .passes (omega (arith, k)), g .passes (omega (arith, k))) };
-  product = λ h g. record { range = in-range up .product (h .range) (g .range); passes = λ k. rw (h .passes (omega (arith, k)), g .passes (omega (arith, k))) };
+  sum = λ h g. record { range = in-range up .sum (h .range) (g .range); passes = λ k. neither-is (h .passes (omega (arith, k))) (g .passes (omega (arith, k))) };
+  product = λ h g. record { range = in-range up .product (h .range) (g .range); passes = λ k. neither-is (h .passes (omega (arith, k))) (g .passes (omega (arith, k))) };
   quotient = λ n p l h. record {
     range = in-range up .quotient n p l (h .range);
-    passes = λ k. rw (h .passes (omega (arith, k)), in-range-passes n p (widen (omega (arith, k)) (h .range)));
+    passes = λ k. neither-is (h .passes (omega (arith, k))) (in-range-passes _ (omega (arith, p)) (widen (omega (arith, k)) (h .range)));
   };
-  half = λ h. record { range = in-range up .half (h .range); passes = λ k. h .passes (omega (arith, k)) };
+  half = λ h. record { range = in-range up .half (h .range); passes = λ k. neither-is (h .passes (omega (arith, k))) (in-range-passes _ (lit< tt) (widen (omega (arith, k)) (h .range))) };
 }
 
 both : {B : ℕ} {x : Tested} {y : Scaled} → B ≤ 2 ^ 28 → Fine B x → x .number ≡ y → x ≡ passed y

@@ -1,8 +1,8 @@
 -- Test 10, case by case, and the form of a scaled number.
-use mathlib.Core.Path.{_≡_, refl, sym, _∙_}
-use mathlib.Core.Bool.{Bool, true, false, not, cond, _&&_, _||_, true≢false}
+use mathlib.Core.Path.{_≡_, refl}
+use mathlib.Core.Bool.{Bool, true, false, not, cond, _&&_, _||_}
 use mathlib.Core.Logic.{inl, inr, ⊎-elim}
-use Prim.Native.Nat.{ℕ, suc, _^_, _≤_, _<_}
+use Prim.Native.Nat.{ℕ, suc, pred, _^_, _≤_, _<_}
 use native.Mathlib.Omega.{arith}
 use lib.Dec.{ltb, leb, eqb}
 use lib.IntN.{ℤ, pos, negsuc, natAbs}
@@ -15,7 +15,7 @@ use Rattle.exact.specs.Scaled.{nought, Normal, IsScaled}
 use Rattle.exact.specs.Private.Ranges.{InRange}
 use Rattle.exact.specs.Refusals.{scaled-form, refuses-10}
 use Rattle.exact.proofs.Fractions.{lt-or-le}
-use Rattle.exact.proofs.Accepted.{neither}
+use Rattle.exact.proofs.Accepted.{neither, both-true}
 
 -- ---- exponents
 
@@ -23,13 +23,13 @@ no-size : (e : ℤ) → natAbs e ≡ 0 → e ≡ pos 0
 no-size (pos n) h = rw h
 no-size (negsuc n) h = let f : ⊥ = omega (arith, h) in absurd f
 
-pub low-is : (e : ℤ) → ltZ e (negsuc 999999999) ≡ ltb lowest-exponent (negPart e)
+pub low-is : (e : ℤ) → ltZ e (negsuc (pred lowest-exponent)) ≡ ltb lowest-exponent (negPart e)
 low-is (pos n) = refl
 low-is (negsuc n) =
     ⊎-elim
-    (λ l. rw (lt-ltb 999999999 n l, lt-ltb lowest-exponent (suc n) (omega (arith, l))))
-    (λ l. rw (le-ltb 999999999 n l, le-ltb lowest-exponent (suc n) (omega (arith, l))))
-    (lt-or-le 999999999 n)
+    (λ l. rw (lt-ltb (pred lowest-exponent) n l, lt-ltb lowest-exponent (suc n) (omega (arith, l))))
+    (λ l. rw (le-ltb (pred lowest-exponent) n l, le-ltb lowest-exponent (suc n) (omega (arith, l))))
+    (lt-or-le (pred lowest-exponent) n)
 
 -- ---- the form
 
@@ -45,17 +45,13 @@ pub form-is : (x : Scaled) → scaled-form x ≡ true → IsScaled 32 x
 unfolding scaled-form
 form-is x h = go (eqb (x .m) 0) refl h
   where
-    both : (a b : Bool) → (a && b) ≡ true → (a ≡ true) × (b ≡ true)
-    both true b k = (refl, k)
-    both false b k = absurd (true≢false (sym k))
-
     go : (t : Bool) → eqb (x .m) 0 ≡ t → cond t (eqb (natAbs (x .e)) 0) (leb (2 ^ 31) (x .m) && ltb (x .m) (2 ^ 32)) ≡ true → IsScaled 32 x
     go true e k =
         let m : x .m ≡ 0 = eqb-true (x .m) 0 e in
         let z : x .e ≡ pos 0 = no-size (x .e) (eqb-true (natAbs (x .e)) 0 k) in
         inl (λ i. record { m = m i; e = z i })
     go false e k =
-        let (l, u) = both (leb (2 ^ 31) (x .m)) (ltb (x .m) (2 ^ 32)) k in
+        let (l, u) = both-true (leb (2 ^ 31) (x .m)) (ltb (x .m) (2 ^ 32)) k in
         inr (record { low = omega (arith, leb-true (2 ^ 31) (x .m) l); high = ltb-true (x .m) (2 ^ 32) u })
 
 -- ---- the test

@@ -4,7 +4,7 @@ ghost use Rattle.encounter.specs.Mantissas.{mantissa-over};
 use crate::arithmetic::scaled;
 use exact::Scaled;
 
-// D or U of m / k, for a mantissa m of 32 bits and a k that is not 0; zero for every other m and k.
+// D or U of m / k, for a mantissa m of 32 bits and a k that is not 0; zero for every other m and k. Callers take `divide` of crate `division`, which refuses those.
 pub fn over(up: bool, m: u32, k: u32) -> Scaled
     ensures { λ r. ⌜ r ≡ mantissa-over up m k ⌝ }
 {

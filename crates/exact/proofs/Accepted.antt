@@ -1,6 +1,6 @@
 -- What acceptance says of an encounter, and what g means then.
-use mathlib.Core.Path.{_≡_, refl}
-use mathlib.Core.Bool.{Bool, true, false, cond, _||_}
+use mathlib.Core.Path.{_≡_, refl, sym}
+use mathlib.Core.Bool.{Bool, true, false, cond, _&&_, _||_, true≢false}
 use Prim.Native.Nat.{ℕ, suc, _*_, _≤_, _<_}
 use native.Mathlib.Nat.{mul-le-mul}
 use native.Mathlib.Omega.{arith}
@@ -34,6 +34,11 @@ neither true b h = (h, both b h)
     both true h = h
     both false h = refl
 neither false b h = (refl, h)
+
+-- of two tests both are true
+pub both-true : (a b : Bool) → (a && b) ≡ true → (a ≡ true) × (b ≡ true)
+both-true true b h = (refl, h)
+both-true false b h = absurd (true≢false (sym h))
 
 inside : (n : ℕ) → outside n ≡ false → (0 < n) × (n ≤ largest-length)
 unfolding outside
