@@ -3,9 +3,7 @@ ghost use mathlib.Core.Path.{_≡_};
 ghost use Rattle.encounter.specs.Session.{refused, counted};
 use crate::state::Answer;
 use crate::state::Called;
-use crate::state::Class;
 use crate::state::Session;
-use exact::Scaled;
 
 // A refusal, with the session as it was.
 pub fn refused_on(r: u32, s: Session) -> Called
@@ -17,18 +15,11 @@ pub fn refused_on(r: u32, s: Session) -> Called
     }
 }
 
-// What an accepted begin or add answers.
+// What an accepted begin or add answers: refusal 0, and the order.
 pub fn count_to(n: u32) -> Answer
     ensures { λ a. ⌜ a ≡ counted n ⌝ }
 {
-    Answer {
-        refusal: 0,
-        N: n,
-        lower: Scaled::ZERO,
-        upper: Scaled::ZERO,
-        class: Class::Clear,
-        object: 0,
-        time: 0,
-        exact: 0,
-    }
+    let mut answer = Answer::refused(0);
+    answer.N = n;
+    answer
 }
