@@ -7,7 +7,7 @@ use lib.Dec.{lit<, lit≤}
 use Rattle.exact.specs.declared.Scaled.{Scaled}
 use Rattle.exact.specs.Fraction.{_≼_, whole, _⊕_, _⊘_, at-most, above}
 use Rattle.exact.specs.Scaled.{U, value, double, Normal, IsScaled}
-use Rattle.exact.specs.Private.Ranges.{InRange}
+use Rattle.exact.specs.Private.Ranges.{largest-exponent, InRange}
 use Rattle.exact.specs.Private.Round.{round}
 use Rattle.exact.specs.Numbers.{exponential-cut, largest-order}
 use Rattle.exact.specs.declared.Encounter.{Encounter}
@@ -65,34 +65,34 @@ module _ (s : Session) (b : Begun s) where
 
   -- ---- their ranges
 
-  sum-fine : (up : Bool) → InRange 32 (2 ^ 22) (exponential-sum up E)
+  sum-fine : (up : Bool) → InRange 32 largest-exponent (exponential-sum up E)
   unfolding exponential-sum
   sum-fine up = powers-fine up (b .fine) (pred exponential-cut) (lit≤ tt) .sum
 
-  pub lower-sum-fine : InRange 32 (2 ^ 22) (s .lower .terms .sum)
+  pub lower-sum-fine : InRange 32 largest-exponent (s .lower .terms .sum)
   unfolding sum-to
   lower-sum-fine = rw lower-sum-is (terms-fine s b (pred (s .N)) (pred-high (s .N) (b .high)) false .sum)
     where
       pred-high : (n : ℕ) → n ≤ largest-order → pred n ≤ largest-order
       pred-high n l = omega arith
 
-  pub upper-sum-fine : InRange 32 (2 ^ 22) (s .upper .terms .sum)
+  pub upper-sum-fine : InRange 32 largest-exponent (s .upper .terms .sum)
   unfolding sum-to
   upper-sum-fine = rw upper-sum-is (terms-fine s b (pred (s .N)) (pred-high (s .N) (b .high)) true .sum)
     where
       pred-high : (n : ℕ) → n ≤ largest-order → pred n ≤ largest-order
       pred-high n l = omega arith
 
-  pub lower-exponential-fine : InRange 32 (2 ^ 22) (s .lower .exponential)
+  pub lower-exponential-fine : InRange 32 largest-exponent (s .lower .exponential)
   lower-exponential-fine = rw lower-exponential-is (sum-fine false)
 
-  pub upper-exponential-fine : InRange 32 (2 ^ 22) (s .upper .exponential)
+  pub upper-exponential-fine : InRange 32 largest-exponent (s .upper .exponential)
   upper-exponential-fine = rw upper-exponential-is (sum-fine true)
 
-  pub r256-fine : InRange 32 (2 ^ 22) (s .r256)
+  pub r256-fine : InRange 32 largest-exponent (s .r256)
   r256-fine = rw r256-is (unfold r256 in powers-fine true (b .fine) exponential-cut (lit≤ tt) .r)
 
-  pub d-fine : InRange 32 (2 ^ 22) (s .d)
+  pub d-fine : InRange 32 largest-exponent (s .d)
   d-fine = rw d-is (d-range s b (s .N) (b .high))
 
   -- ---- the divisors are above 0
@@ -125,7 +125,7 @@ module _ (s : Session) (b : Begun s) where
       formed : exponential-with-tail E ≡ round true 32 (value (s .upper .exponential) ⊕ value (double (s .r256)))
       formed = unfold exponential-with-tail in rw (← upper-exponential-is, ← r256-is) (sum-double true 32 (s .upper .exponential) (s .r256) (lit< tt))
 
-      whole-range : (x : Scaled) → x ≡ round true 32 (value (s .upper .exponential) ⊕ value (double (s .r256))) → InRange 32 (2 ^ 22 + 3) x
+      whole-range : (x : Scaled) → x ≡ round true 32 (value (s .upper .exponential) ⊕ value (double (s .r256))) → InRange 32 (largest-exponent + 3) x
       whole-range x e = rw e (sum-range true 32 (lit< tt) (widen (lit≤ tt) upper-exponential-fine) (double-range r256-fine))
 
   pub upper-end-fine : {x : Scaled} → x ≡ upper-end E (s .N) → InRange 32 (2 ^ 28) x
@@ -135,7 +135,7 @@ module _ (s : Session) (b : Begun s) where
       formed : U (value (sum-to true E (s .N)) ⊕ tail-bound E (s .N)) ≡ round true 32 (value (s .upper .terms .sum) ⊕ value (double (s .d)))
       formed = unfold tail-bound in rw (← upper-sum-is, ← d-is) (sum-double true 32 (s .upper .terms .sum) (s .d) (lit< tt))
 
-      total : {x : Scaled} → x ≡ round true 32 (value (s .upper .terms .sum) ⊕ value (double (s .d))) → InRange 32 (2 ^ 22 + 3) x
+      total : {x : Scaled} → x ≡ round true 32 (value (s .upper .terms .sum) ⊕ value (double (s .d))) → InRange 32 (largest-exponent + 3) x
       total e = rw e (sum-range true 32 (lit< tt) (widen (lit≤ tt) upper-sum-fine) (double-range d-fine))
 
   -- ---- test 23

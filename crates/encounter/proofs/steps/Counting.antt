@@ -2,7 +2,7 @@
 use mathlib.Core.Path.{_≡_, refl, sym, _∙_, ap}
 use mathlib.Core.Bool.{Bool, true, false, cond, _||_, _&&_, true≢false, false≢true}
 use mathlib.Core.Logic.{_⊎_, inl, inr}
-use Prim.Native.Nat.{ℕ, suc, _+_, _-_, _^_, _≤_, _<_}
+use Prim.Native.Nat.{ℕ, suc, _+_, _-_, _≤_, _<_}
 use native.Mathlib.Omega.{arith}
 use borrow.Author.Tests.{ltb-true, ltb-false}
 use lib.Dec.{ltb}
@@ -10,7 +10,7 @@ use Rattle.exact.specs.declared.Encounter.{Encounter}
 use Rattle.exact.specs.Arithmetic.{rounded}
 use Rattle.exact.specs.Losses.{either-lost, exact-terms, lossless}
 use Rattle.exact.specs.Numbers.{largest-order}
-use Rattle.exact.specs.Private.Ranges.{Letters-in, Terms-in}
+use Rattle.exact.specs.Private.Ranges.{largest-exponent, Letters-in, Terms-in}
 use Rattle.exact.specs.Steps.{next, side-letters, side-terms}
 use Rattle.exact.proofs.Accepted.{facts}
 use Rattle.exact.proofs.Growth.{letters-in}
@@ -98,14 +98,14 @@ module _ (s : Session) (b : Begun s) where
 
     -- what a side's step asks for
     side-fine : (up : Bool) {l : Letters} {t : Terms} → step-letters l ≡ side-letters up E → step-terms t ≡ side-terms up E n
-        → (n < largest-order) × (Letters-in (step-letters l)) × (Terms-in (2 ^ 22) (step-terms t))
+        → (n < largest-order) × (Letters-in (step-letters l)) × (Terms-in largest-exponent (step-terms t))
     unfolding side-letters
     side-fine up p q = (nl, rw p (letters-in (in-range up) (facts (b .fine) .bounds)), rw q (terms-fine s b n (omega (arith, nl)) up))
 
-    pub lower-fine : (n < largest-order) × (Letters-in (step-letters (s .lower .letters))) × (Terms-in (2 ^ 22) (step-terms (w .lower)))
+    pub lower-fine : (n < largest-order) × (Letters-in (step-letters (s .lower .letters))) × (Terms-in largest-exponent (step-terms (w .lower)))
     lower-fine = side-fine false lower-letters lower-terms
 
-    pub upper-fine : (n < largest-order) × (Letters-in (step-letters (s .upper .letters))) × (Terms-in (2 ^ 22) (step-terms (w .upper)))
+    pub upper-fine : (n < largest-order) × (Letters-in (step-letters (s .upper .letters))) × (Terms-in largest-exponent (step-terms (w .upper)))
     upper-fine = side-fine true upper-letters upper-terms
 
     pub exact-high : w .counts .exact ≤ largest-order

@@ -1,13 +1,13 @@
 -- An encounter's next terms and their losses, where nothing was lost before.
 use mathlib.Core.Path.{_≡_, sym, _∙_, ap, subst}
 use mathlib.Core.Bool.{Bool, true, false, not, _||_, Bool·not-not}
-use Prim.Native.Nat.{ℕ, suc, _^_}
+use Prim.Native.Nat.{ℕ, suc}
 use borrow.Author.Tests.{not-true}
 use Rattle.exact.specs.declared.Encounter.{Encounter}
 use Rattle.exact.specs.declared.Traced.{Traced}
 use Rattle.exact.specs.Arithmetic.{rounded, rounding, traced}
 use Rattle.exact.specs.Losses.{letter-numbers, term-numbers, traced-letters, traced-terms, term-lost, operand-lost, either-lost, lossless}
-use Rattle.exact.specs.Private.Ranges.{Letters-in, Terms-in}
+use Rattle.exact.specs.Private.Ranges.{largest-exponent, Letters-in, Terms-in}
 use Rattle.exact.specs.Private.Clean.{clean-letters, clean-terms}
 use Rattle.exact.specs.Steps.{LettersOf, TermsOf, next-c, next-p, next-v, next-y, next, terms, side-letters, side-terms}
 use Rattle.exact.proofs.Accepted.{neither}
@@ -26,8 +26,8 @@ use Rattle.encounter.specs.Private.Held.{step-letters, step-terms, held-
 pub clean-letters-fine : {l : Letters} {w : TracedLetters} → way-letters w ≡ clean-letters (step-letters l) → Letters-in (step-letters l) → Letters-in (letter-numbers (way-letters w))
 clean-letters-fine e i = subst (λ (x : LettersOf Traced). Letters-in (letter-numbers x)) (sym e) i
 
-pub clean-terms-fine : {s : Terms} {w : TracedTerms} → way-terms w ≡ clean-terms (step-terms s) → Terms-in (2 ^ 22) (step-terms s) → Terms-in (2 ^ 22) (term-numbers (way-terms w))
-clean-terms-fine e i = subst (λ (x : TermsOf Traced). Terms-in (2 ^ 22) (term-numbers x)) (sym e) i
+pub clean-terms-fine : {s : Terms} {w : TracedTerms} → way-terms w ≡ clean-terms (step-terms s) → Terms-in largest-exponent (step-terms s) → Terms-in largest-exponent (term-numbers (way-terms w))
+clean-terms-fine e i = subst (λ (x : TermsOf Traced). Terms-in largest-exponent (term-numbers x)) (sym e) i
 
 pub clean-losses-are : (up : Bool) (n : ℕ) {l : Letters} {s : Terms} {w : TracedLetters} {t x : TracedTerms} {r : Losses}
     → way-letters w ≡ clean-letters (step-letters l) → way-terms t ≡ clean-terms (step-terms s) → way-terms x ≡ next (traced up 32) (way-letters w) n (way-terms t)

@@ -1,11 +1,11 @@
 -- One term more on both sides: what the loop of `advance` holds at index n is the progress there.
 use mathlib.Core.Path.{_≡_, _∙_, ap}
 use mathlib.Core.Bool.{Bool, true, false}
-use Prim.Native.Nat.{ℕ, zero, suc, pred, _+_, _-_, _*_, _^_, _≤_, _<_}
+use Prim.Native.Nat.{ℕ, zero, suc, pred, _+_, _-_, _*_, _≤_, _<_}
 use native.Mathlib.Numerals.{add-one}
 use native.Mathlib.Omega.{arith}
 use Rattle.exact.specs.declared.Scaled.{Scaled}
-use Rattle.exact.specs.Private.Ranges.{InRange, Letters-in, Terms-in}
+use Rattle.exact.specs.Private.Ranges.{largest-exponent, InRange, Letters-in, Terms-in}
 use Rattle.exact.specs.Numbers.{largest-order}
 use Rattle.exact.specs.declared.Encounter.{Encounter}
 use Rattle.exact.specs.Arithmetic.{rounded}
@@ -56,16 +56,16 @@ module _ (s : Session) (b : Begun s) where
 
   -- at index n
   module _ (n : ℕ) (nl : n ≤ largest-order) where
-    small : 700 * n + 400 ≤ 2 ^ 22
+    small : 700 * n + 400 ≤ largest-exponent
     small = omega arith
 
-    pub terms-fine : (up : Bool) → Terms-in (2 ^ 22) (side-terms up E n)
+    pub terms-fine : (up : Bool) → Terms-in largest-exponent (side-terms up E n)
     unfolding side-terms side-letters side-start
     terms-fine up =
         let q = terms-in (in-range up) _ (letters-in (in-range up) (facts (b .fine) .bounds)) (start-in (in-range up) (facts (b .fine) .bounds)) n nl in
         record { c = widen small (q .c); p = widen small (q .p); v = widen small (q .v); y = widen small (q .y); sum = widen small (q .sum) }
 
-  pub d-range : (n : ℕ) → n ≤ largest-order → InRange 32 (2 ^ 22) (d E n)
+  pub d-range : (n : ℕ) → n ≤ largest-order → InRange 32 largest-exponent (d E n)
   unfolding d side-start M side-letters
   d-range n nl = widen (omega arith) (tail-in (in-range true) (start-in (in-range true) (facts (b .fine) .bounds)) (bound-in (in-range true) _ (letters-in (in-range true) (facts (b .fine) .bounds))) n nl)
 
@@ -117,10 +117,10 @@ module _ {s : Session} (b : Begun s) {l : LetterPairs} {m : Wide} {t : TermPairs
   pub bound-held : InRange 32 400 (narrow m)
   bound-held = rw (h .bound-is) (M-range s b)
 
-  pub terms-held : n < largest-order → (up : Bool) → Terms-in (2 ^ 22) (terms-of up t)
+  pub terms-held : n < largest-order → (up : Bool) → Terms-in largest-exponent (terms-of up t)
   terms-held nl up = rw (h .terms-are up) (terms-fine s b n (omega arith) up)
 
-  pub tail-held : n < largest-order → InRange 32 (2 ^ 22) (narrow x)
+  pub tail-held : n < largest-order → InRange 32 largest-exponent (narrow x)
   tail-held nl = rw (h .tail-is) (d-range s b (suc n) (omega arith))
 
 module _ (E : Encounter) (n : ℕ) where

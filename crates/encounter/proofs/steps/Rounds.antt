@@ -10,7 +10,7 @@ use Rattle.exact.specs.Fraction.{_⊕_}
 use Rattle.exact.specs.Numbers.{exponential-cut}
 use Rattle.exact.specs.Refusals.{Accepted}
 use Rattle.exact.specs.Scaled.{one, value}
-use Rattle.exact.specs.Private.Ranges.{InRange, Powers-in}
+use Rattle.exact.specs.Private.Ranges.{largest-exponent, InRange, Powers-in}
 use Rattle.exact.specs.Private.Round.{round}
 use Rattle.exact.specs.Arithmetic.{rounded}
 use Rattle.exact.specs.Steps.{PowersOf, next-power, powers, side-letters, side-powers}
@@ -31,7 +31,7 @@ module _ (up : Bool) {E : Encounter} (a : Accepted E) where
   unfolding side-letters
   t-in = letters-in (in-range up) (facts a .bounds) .t
 
-  pub powers-fine : (k : ℕ) → k ≤ exponential-cut → Powers-in (2 ^ 22) (side-powers up E k)
+  pub powers-fine : (k : ℕ) → k ≤ exponential-cut → Powers-in largest-exponent (side-powers up E k)
   unfolding side-powers
   powers-fine k l =
       let q = powers-in (in-range up) one _ one-in t-in k (omega arith) in
@@ -50,13 +50,13 @@ module _ (up : Bool) (E : Encounter) (k : ℕ) {t r : Scaled} {w : PowersOf Scal
 -- ---- both sides at k
 
 module _ {E : Encounter} {k : ℕ} {t : Pair} {w : PowerPairs} (h : Powers-at E k t w) where
-  pub powers-held : k ≤ exponential-cut → (up : Bool) → Powers-in (2 ^ 22) (powers-of up w)
+  pub powers-held : k ≤ exponential-cut → (up : Bool) → Powers-in largest-exponent (powers-of up w)
   powers-held l up = rw (h .powers-are up) (powers-fine up (h .fine) k l)
 
   -- the ranges that a round needs
   module _ (l : k < exponential-cut) (up : Bool) where
     -- of t and r(k), which are multiplied
-    pub factors : (InRange 32 387 (side-of up t)) × (InRange 32 (2 ^ 22) (side-of up (w .r)))
+    pub factors : (InRange 32 387 (side-of up t)) × (InRange 32 largest-exponent (side-of up (w .r)))
     factors = (rw (h .t-is up) (t-in up (h .fine)), powers-held (omega arith) up .r)
 
     -- of r(k) and the sum

@@ -1,7 +1,7 @@
 -- The numbers that stand beside losses: they are those formed without losses, and their ranges, from what a call promised of them.
 use mathlib.Core.Path.{_≡_, refl}
 use mathlib.Core.Bool.{Bool, false}
-use Prim.Native.Nat.{ℕ, suc, _+_, _^_, _≤_, _<_}
+use Prim.Native.Nat.{ℕ, suc, _+_, _*_, _^_, _≤_, _<_}
 use native.Mathlib.Nat.{zero-lt-suc}
 use native.Mathlib.Omega.{arith}
 use lib.Dec.{lit≤}
@@ -10,7 +10,7 @@ use Rattle.exact.specs.Arithmetic.{rounded, rounding, traced}
 use Rattle.exact.specs.Fraction.{Frac}
 use Rattle.exact.specs.Losses.{letter-numbers, term-numbers}
 use Rattle.exact.specs.Numbers.{largest-order}
-use Rattle.exact.specs.Private.Ranges.{InRange, Letters-in, Terms-in}
+use Rattle.exact.specs.Private.Ranges.{largest-exponent, InRange, Letters-in, Terms-in}
 use Rattle.exact.specs.Private.Round.{round}
 use Rattle.exact.specs.Steps.{LettersOf, TermsOf, next-c}
 use Rattle.exact.proofs.Growth.{c-in}
@@ -59,13 +59,13 @@ module _ (up : Bool) where
   pub half-fine : {A : ℕ} (a : Traced) {r : Traced} → r ≡ traced up 32 .half a → InRange 32 A (a .number) → InRange 32 (A + 1) (r .number)
   half-fine a e h = rw (e, half-number a) (in-range up .half h)
 
-  pub c-fine : (l : LettersOf Traced) (n : ℕ) (s : TermsOf Traced) {r : Traced} → r ≡ next-c (traced up 32) l n s → n < largest-order → Letters-in (letter-numbers l) → Terms-in (2 ^ 22) (term-numbers s)
-      → InRange 32 (2 ^ 22 + 460) (r .number)
-  c-fine l n s e nl i k = rw (e, c-number l n s) (c-in (in-range up) _ i (2 ^ 22) n nl k)
+  pub c-fine : (l : LettersOf Traced) (n : ℕ) (s : TermsOf Traced) {r : Traced} → r ≡ next-c (traced up 32) l n s → n < largest-order → Letters-in (letter-numbers l) → Terms-in largest-exponent (term-numbers s)
+      → InRange 32 (largest-exponent + 460) (r .number)
+  c-fine l n s e nl i k = rw (e, c-number l n s) (c-in (in-range up) _ i largest-exponent n nl k)
 
   -- v(n+1), where x is c(n+1)
   pub weighted-fine : (n : ℕ) (x h y : Traced) {r : Traced} → n < largest-order → r ≡ traced up 32 .sum x (traced up 32 .quotient (traced up 32 .product h y) (suc (suc n)))
-      → InRange 32 (2 ^ 22 + 460) (x .number) → InRange 32 387 (h .number) → InRange 32 (2 ^ 22) (y .number) → InRange 32 (2 ^ 23) (r .number)
+      → InRange 32 (largest-exponent + 460) (x .number) → InRange 32 387 (h .number) → InRange 32 largest-exponent (y .number) → InRange 32 (2 * largest-exponent) (r .number)
   weighted-fine n x h y nl e i j k =
       let hy = product-fine h y refl j k in
       let q = over-fine (traced up 32 .product h y) (suc (suc n)) refl (zero-lt-suc (suc n)) (omega (arith, nl)) hy in

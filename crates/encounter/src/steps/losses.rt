@@ -1,11 +1,11 @@
 // What is lost on the way to a term (request #105 of document 02): one side's letters and terms, each with whether something was lost on its way.
 ghost use mathlib.Core.Path.{_≡_};
 ghost use mathlib.Core.Bool.{_||_, cond};
-ghost use Prim.Native.Nat.{suc, _^_, _<_};
+ghost use Prim.Native.Nat.{suc, _*_, _<_};
 ghost use Rattle.exact.specs.Arithmetic.{rounded, traced};
 ghost use Rattle.exact.specs.Losses.{letter-numbers, term-numbers, operand-lost};
 ghost use Rattle.exact.specs.Numbers.{largest-order};
-ghost use Rattle.exact.specs.Private.Ranges.{InRange, Letters-in, Terms-in};
+ghost use Rattle.exact.specs.Private.Ranges.{largest-exponent, InRange, Letters-in, Terms-in};
 ghost use Rattle.exact.specs.Private.Clean.{clean-letters, clean-terms};
 ghost use Rattle.exact.specs.Steps.{first, next-c, next};
 ghost use Rattle.encounter.specs.Private.Held.{step-letters, step-terms, held-letters, held-terms, way-letters, way-terms, Clean-losses};
@@ -104,7 +104,7 @@ pub fn first_terms(up: bool, l: TracedLetters, start: Traced) -> TracedTerms
 
 // c(n + 1).
 fn next_term(up: bool, l: TracedLetters, s: TracedTerms, n: u64) -> Traced
-    requires { ⌜ (n < largest-order) × (Letters-in (letter-numbers (way-letters l))) × (Terms-in (2 ^ 22) (term-numbers (way-terms s))) ⌝ }
+    requires { ⌜ (n < largest-order) × (Letters-in (letter-numbers (way-letters l))) × (Terms-in largest-exponent (term-numbers (way-terms s))) ⌝ }
     ensures { λ r. ⌜ r ≡ next-c (traced up 32) (way-letters l) n (way-terms s) ⌝ }
 {
     let hv = product(up, l.h, s.v);
@@ -116,7 +116,7 @@ fn next_term(up: bool, l: TracedLetters, s: TracedTerms, n: u64) -> Traced
 
 // p(n + 1), where c is c(n + 1) and p is p(n).
 fn next_product(up: bool, u: Traced, c: Traced, p: Traced, n: u64) -> Traced
-    requires { ⌜ (n < largest-order) × (InRange 32 177 (u .number)) × (InRange 32 (2 ^ 23) (c .number)) × (InRange 32 (2 ^ 22) (p .number)) ⌝ }
+    requires { ⌜ (n < largest-order) × (InRange 32 177 (u .number)) × (InRange 32 (2 * largest-exponent) (c .number)) × (InRange 32 largest-exponent (p .number)) ⌝ }
     ensures { λ r. ⌜ r ≡ traced up 32 .product u (traced up 32 .sum c (traced up 32 .quotient p (suc (suc n)))) ⌝ }
 {
     product(up, u, sum(up, c, over(up, p, n + 2)))
@@ -124,7 +124,7 @@ fn next_product(up: bool, u: Traced, c: Traced, p: Traced, n: u64) -> Traced
 
 // v(n + 1) or y(n + 1): x + h × y / (n + 2), where x is c(n + 1) and y is v(n), or x is v(n + 1) and y is y(n).
 fn next_weighted(up: bool, x: Traced, h: Traced, y: Traced, n: u64) -> Traced
-    requires { ⌜ (n < largest-order) × (InRange 32 (2 ^ 23) (x .number)) × (InRange 32 387 (h .number)) × (InRange 32 (2 ^ 22) (y .number)) ⌝ }
+    requires { ⌜ (n < largest-order) × (InRange 32 (2 * largest-exponent) (x .number)) × (InRange 32 387 (h .number)) × (InRange 32 largest-exponent (y .number)) ⌝ }
     ensures { λ r. ⌜ r ≡ traced up 32 .sum x (traced up 32 .quotient (traced up 32 .product h y) (suc (suc n))) ⌝ }
 {
     sum(up, x, over(up, product(up, h, y), n + 2))
@@ -132,7 +132,7 @@ fn next_weighted(up: bool, x: Traced, h: Traced, y: Traced, n: u64) -> Traced
 
 // The terms of index n + 1 from those of index n.
 fn next_terms(up: bool, l: TracedLetters, s: TracedTerms, n: u64) -> TracedTerms
-    requires { ⌜ (n < largest-order) × (Letters-in (letter-numbers (way-letters l))) × (Terms-in (2 ^ 22) (term-numbers (way-terms s))) ⌝ }
+    requires { ⌜ (n < largest-order) × (Letters-in (letter-numbers (way-letters l))) × (Terms-in largest-exponent (term-numbers (way-terms s))) ⌝ }
     ensures { λ r. ⌜ way-terms r ≡ next (traced up 32) (way-letters l) n (way-terms s) ⌝ }
 {
     let h = l.h;
@@ -197,7 +197,7 @@ pub struct SideStep {
 
 // Where nothing was lost before.
 pub fn side_step(up: bool, l: Letters, s: Terms, n: u64) -> SideStep
-    requires { ⌜ (n < largest-order) × (Letters-in (step-letters l)) × (Terms-in (2 ^ 22) (step-terms s)) ⌝ }
+    requires { ⌜ (n < largest-order) × (Letters-in (step-letters l)) × (Terms-in largest-exponent (step-terms s)) ⌝ }
     ensures { λ r. ⌜ (r .terms ≡ held-terms (next (rounded up 32) (step-letters l) n (step-terms s))) × Clean-losses up (step-letters l) (step-terms s) n (r .losses) ⌝ }
 {
     let w = clean_letters(l);

@@ -1,10 +1,10 @@
 // The exponentials of both sides, round by round.
 ghost use mathlib.Core.Path.{_≡_};
 ghost use mathlib.Core.Bool.{Bool, true, false};
-ghost use Prim.Native.Nat.{suc, pred, _^_, _<_};
+ghost use Prim.Native.Nat.{suc, pred, _<_};
 ghost use Rattle.exact.specs.declared.Encounter.{Encounter};
 ghost use Rattle.exact.specs.Numbers.{exponential-cut};
-ghost use Rattle.exact.specs.Private.Ranges.{InRange};
+ghost use Rattle.exact.specs.Private.Ranges.{largest-exponent, InRange};
 ghost use Rattle.exact.specs.Steps.{exponential-sum, r256 as r256Of};
 ghost use Rattle.encounter.specs.Private.Held.{T-of};
 ghost use Rattle.encounter.specs.Private.Loops.{side-of, next-r, Powers-at};
@@ -23,7 +23,7 @@ const LAST: u64 = EXPONENTIAL_CUT - 1;
 
 // r(k + 1) from r(k).
 fn next_r(t: Pair, r: Pair, k: u64) -> Pair
-    requires { ⌜ (k < exponential-cut) × ((up : Bool) → (InRange 32 387 (side-of up t)) × (InRange 32 (2 ^ 22) (side-of up r))) ⌝ }
+    requires { ⌜ (k < exponential-cut) × ((up : Bool) → (InRange 32 387 (side-of up t)) × (InRange 32 largest-exponent (side-of up r))) ⌝ }
     ensures { λ q. ⌜ ((up : Bool) → side-of up q ≡ next-r up k (side-of up r) (side-of up t)) ⌝ }
 {
     overs(products(r, t), k + 1)

@@ -4,7 +4,7 @@ ghost use mathlib.Core.Bool.{Bool, true, false};
 ghost use Prim.Native.Nat.{_^_, _<_};
 ghost use Rattle.exact.specs.Fraction.{_⊕_, _⊗_, _÷_};
 ghost use Rattle.exact.specs.Scaled.{value, half};
-ghost use Rattle.exact.specs.Private.Ranges.{InRange, Terms-in};
+ghost use Rattle.exact.specs.Private.Ranges.{largest-exponent, InRange, Terms-in};
 ghost use Rattle.exact.specs.Private.Round.{round};
 ghost use Rattle.encounter.specs.Private.Held.{step-letters, step-terms, held-terms};
 ghost use Rattle.encounter.specs.Private.Loops.{narrow, side-of, letters-of, terms-of, IsReciprocal};
@@ -90,7 +90,7 @@ pub fn side(up: bool, b: Pair) -> Scaled
 }
 
 pub fn side_terms(up: bool, s: TermPairs) -> Terms
-    requires { ⌜ Terms-in (2 ^ 22) (terms-of up s) ⌝ }
+    requires { ⌜ Terms-in largest-exponent (terms-of up s) ⌝ }
     ensures { λ r. ⌜ r ≡ held-terms (terms-of up s) ⌝ }
 {
     let c = side(up, s.c);

@@ -1,12 +1,12 @@
 -- Premises of the private arithmetic, no line of the paper: bounds on an encounter's inputs, and how far the exponents of a side's letters and terms go; and how
 -- far those of its powers go, which only laws name. proofs/Accepted.antt, proofs/Growth.antt and proofs/Exponents.antt prove them.
-use Prim.Native.Nat.{ℕ, _≤_, _<_}
+use Prim.Native.Nat.{ℕ, _+_, _*_, _≤_, _<_}
 use mathlib.Core.Bool.{cond}
 use lib.IntN.{natAbs}
 use Rattle.exact.specs.declared.Encounter.{Encounter}
 use Rattle.exact.specs.declared.Scaled.{Scaled}
 use Rattle.exact.specs.Integer.{posPart, negPart}
-use Rattle.exact.specs.Numbers.{largest-length}
+use Rattle.exact.specs.Numbers.{largest-length, largest-order}
 use Rattle.exact.specs.Scaled.{IsScaled}
 use Rattle.exact.specs.Steps.{LettersOf, TermsOf, PowersOf}
 use Rattle.exact.specs.Refusals.{refuses-3, refuses-4, refuses-5, refuses-6}
@@ -32,6 +32,10 @@ pub record InRange (bits B : ℕ) (x : Scaled) : Type 0 where
   pub is-scaled : IsScaled bits x
   pub above : posPart (x .e) ≤ B
   pub below : negPart (x .e) ≤ B
+
+-- how far the exponents of terms, sums, d and r go: at index n to 700n + 400 (proofs/Growth.antt), and no index is above the largest order
+abbrev pub largest-exponent : ℕ
+largest-exponent = 700 * largest-order + 400
 
 -- letters, terms and powers, of any arithmetic, whose numbers have P: P B x is a property of x that holds for every larger B too
 module _ {S : Type 0} (P : ℕ → S → Type 0) where

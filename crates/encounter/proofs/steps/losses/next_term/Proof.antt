@@ -1,11 +1,11 @@
 use mathlib.Core.Path.{_≡_}
 use mathlib.Core.Bool.{Bool}
-use Prim.Native.Nat.{ℕ, _+_, _^_, _≤_}
+use Prim.Native.Nat.{ℕ, _+_, _≤_}
 use native.Mathlib.Omega.{arith}
 use lib.Dec.{lit≤}
 use Rattle.exact.specs.declared.Traced.{Traced}
 use Rattle.exact.specs.Arithmetic.{traced}
-use Rattle.exact.specs.Private.Ranges.{InRange}
+use Rattle.exact.specs.Private.Ranges.{largest-exponent, InRange}
 use Rattle.exact.specs.Steps.{next-c}
 use Rattle.exact.proofs.Ranges.{widen}
 use Rattle.encounter.proofs.steps.Divisors.{divisor, divisor-low, divisor-max}
@@ -17,16 +17,16 @@ use Rattle.encounter.proofs.steps.losses.next_term.Tie as tie
 -- the range of each number on the way
 module _ (up : Bool) where
   -- a letter times a term
-  product-in : (x y : Traced) {r : Traced} → r ≡ traced up 32 .product x y → InRange 32 387 (x .number) → InRange 32 (2 ^ 22) (y .number) → InRange 32 (2 ^ 22 + 420) (r .number)
+  product-in : (x y : Traced) {r : Traced} → r ≡ traced up 32 .product x y → InRange 32 387 (x .number) → InRange 32 largest-exponent (y .number) → InRange 32 (largest-exponent + 420) (r .number)
   product-in x y e i k = widen (lit≤ tt) (product-fine up x y e i k)
 
   -- p(n) and half of h × v(n)
-  first-in : (p hv : Traced) {x r : Traced} → x ≡ traced up 32 .half hv → r ≡ traced up 32 .sum p x → InRange 32 (2 ^ 22) (p .number) → InRange 32 (2 ^ 22 + 420) (hv .number) → InRange 32 (2 ^ 22 + 423) (r .number)
+  first-in : (p hv : Traced) {x r : Traced} → x ≡ traced up 32 .half hv → r ≡ traced up 32 .sum p x → InRange 32 largest-exponent (p .number) → InRange 32 (largest-exponent + 420) (hv .number) → InRange 32 (largest-exponent + 423) (r .number)
   first-in p hv {x} ex er i k = widen (lit≤ tt) (sum-fine up p x er (widen (lit≤ tt) i) (half-fine up hv ex k))
 
   -- one sum more, with the product of a letter and a term
-  more-in : (B : ℕ) → 2 ^ 22 + 420 ≤ B → (x y a : Traced) {xy r : Traced} → xy ≡ traced up 32 .product x y → r ≡ traced up 32 .sum a xy
-      → InRange 32 387 (x .number) → InRange 32 (2 ^ 22) (y .number) → InRange 32 B (a .number) → InRange 32 (B + 1 + 1) (r .number)
+  more-in : (B : ℕ) → largest-exponent + 420 ≤ B → (x y a : Traced) {xy r : Traced} → xy ≡ traced up 32 .product x y → r ≡ traced up 32 .sum a xy
+      → InRange 32 387 (x .number) → InRange 32 largest-exponent (y .number) → InRange 32 B (a .number) → InRange 32 (B + 1 + 1) (r .number)
   more-in B l x y a {xy} ex er i k j = sum-fine up a xy er j (widen l (product-in x y ex i k))
 
 product-requires : tie.Need-product-requires
@@ -61,7 +61,7 @@ sum-requires-3 c κs =
     let up = z .args .up in
     let hv = product-in up _ _ (c .before .before .before .before .before .product .ensures) (z .pre .1 .h) (z .pre .2 .v) in
     let a = first-in up _ _ (c .before .before .before .before .halved .ensures up) (c .before .before .before .sum .ensures) (z .pre .2 .p) hv in
-    let b = more-in up (2 ^ 22 + 423) (lit≤ tt) _ _ _ (c .before .before .product2 .ensures) (c .before .sum2 .ensures) (z .pre .1 .X) (z .pre .2 .y) a in
+    let b = more-in up (largest-exponent + 423) (lit≤ tt) _ _ _ (c .before .before .product2 .ensures) (c .before .sum2 .ensures) (z .pre .1 .X) (z .pre .2 .y) a in
     (widen (lit≤ tt) b, widen (lit≤ tt) (product-in up _ _ (c .product3 .ensures) (z .pre .1 .Y) (z .pre .2 .c)))
 
 add-over : tie.Need-add-over
@@ -79,8 +79,8 @@ over-requires c κs =
     let up = z .args .up in
     let hv = product-in up _ _ (c .before .before .before .before .before .before .product .ensures) (z .pre .1 .h) (z .pre .2 .v) in
     let a = first-in up _ _ (c .before .before .before .before .before .halved .ensures up) (c .before .before .before .before .sum .ensures) (z .pre .2 .p) hv in
-    let b = more-in up (2 ^ 22 + 423) (lit≤ tt) _ _ _ (c .before .before .before .product2 .ensures) (c .before .before .sum2 .ensures) (z .pre .1 .X) (z .pre .2 .y) a in
-    let all = more-in up (2 ^ 22 + 425) (lit≤ tt) _ _ _ (c .before .product3 .ensures) (c .sum3 .ensures) (z .pre .1 .Y) (z .pre .2 .c) b in
+    let b = more-in up (largest-exponent + 423) (lit≤ tt) _ _ _ (c .before .before .before .product2 .ensures) (c .before .before .sum2 .ensures) (z .pre .1 .X) (z .pre .2 .y) a in
+    let all = more-in up (largest-exponent + 425) (lit≤ tt) _ _ _ (c .before .product3 .ensures) (c .sum3 .ensures) (z .pre .1 .Y) (z .pre .2 .c) b in
     (widen (lit≤ tt) all, divisor-low (z .args .n), divisor-max (z .args .n) (z .pre .0))
 
 returns : tie.Need-returns

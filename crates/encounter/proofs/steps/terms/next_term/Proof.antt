@@ -1,12 +1,12 @@
 use mathlib.Core.Path.{_≡_}
-use Prim.Native.Nat.{ℕ, _+_, _^_, _≤_}
+use Prim.Native.Nat.{ℕ, _+_, _≤_}
 use native.Mathlib.Omega.{arith}
 use lib.Dec.{lit≤}
 use mathlib.Core.Bool.{Bool}
 use Rattle.exact.specs.declared.Scaled.{Scaled}
 use Rattle.exact.specs.Fraction.{_⊕_, _⊗_}
 use Rattle.exact.specs.Scaled.{value}
-use Rattle.exact.specs.Private.Ranges.{InRange}
+use Rattle.exact.specs.Private.Ranges.{largest-exponent, InRange}
 use Rattle.exact.specs.Private.Round.{round}
 use Rattle.exact.specs.Arithmetic.{rounded}
 use Rattle.exact.specs.Steps.{next-c}
@@ -19,15 +19,15 @@ use Rattle.encounter.proofs.steps.terms.next_term.Tie as tie
 
 -- the range of each number on the way
 module _ (up : Bool) where
-  hv-in : {h v hv : Scaled} → hv ≡ rounded up 32 .product h v → InRange 32 387 h → InRange 32 (2 ^ 22) v → InRange 32 (2 ^ 22 + 420) hv
+  hv-in : {h v hv : Scaled} → hv ≡ rounded up 32 .product h v → InRange 32 387 h → InRange 32 largest-exponent v → InRange 32 (largest-exponent + 420) hv
   hv-in e i k = rw e (widen (lit≤ tt) (in-range up .product i k))
 
-  first-in : {p x a : Scaled} → a ≡ round up 32 (value p ⊕ value x) → InRange 32 (2 ^ 22) p → InRange 32 (2 ^ 22 + 421) x → InRange 32 (2 ^ 22 + 423) a
+  first-in : {p x a : Scaled} → a ≡ round up 32 (value p ⊕ value x) → InRange 32 largest-exponent p → InRange 32 (largest-exponent + 421) x → InRange 32 (largest-exponent + 423) a
   first-in e i k = sum-of up e (widen (lit≤ tt) i) k
 
   -- one sum more, with the product of a letter and a term
-  more-in : {X y x a b : Scaled} (B : ℕ) → 420 + 2 ^ 22 ≤ B → x ≡ round up 32 (value X ⊗ value y) → b ≡ round up 32 (value a ⊕ value x)
-      → InRange 32 387 X → InRange 32 (2 ^ 22) y → InRange 32 B a → InRange 32 (B + 1 + 1) b
+  more-in : {X y x a b : Scaled} (B : ℕ) → 420 + largest-exponent ≤ B → x ≡ round up 32 (value X ⊗ value y) → b ≡ round up 32 (value a ⊕ value x)
+      → InRange 32 387 X → InRange 32 largest-exponent y → InRange 32 B a → InRange 32 (B + 1 + 1) b
   more-in B l e f i k j = sum-of up f j (widen (omega arith) (product-of up e i k))
 
 halves-requires : tie.Need-halves-requires
@@ -56,7 +56,7 @@ sums-requires-3 c κs =
     let z = c .before .before .before .before .before .before .before .before .before .before in
     λ up.
     let a = first-in up (c .before .before .before .sums .ensures up) (z .pre .2 up .p) (half-of (c .before .before .before .before .halves .ensures up) (hv-in up (z .pre .3 up) (z .pre .1 up .h) (z .pre .2 up .v))) in
-    let b = more-in up (2 ^ 22 + 423) (lit≤ tt) (c .before .before .products .ensures up) (c .before .sums2 .ensures up) (z .pre .1 up .X) (z .pre .2 up .y) a in
+    let b = more-in up (largest-exponent + 423) (lit≤ tt) (c .before .before .products .ensures up) (c .before .sums2 .ensures up) (z .pre .1 up .X) (z .pre .2 up .y) a in
     (widen (lit≤ tt) b, widen (lit≤ tt) (product-of up (c .products2 .ensures up) (z .pre .1 up .Y) (z .pre .2 up .c)))
 
 add-overs : tie.Need-add-overs
@@ -73,8 +73,8 @@ overs-requires c κs =
     let z = c .before .before .before .before .before .before .before .before .before .before .before in (
       (λ up.
           let a = first-in up (c .before .before .before .before .sums .ensures up) (z .pre .2 up .p) (half-of (c .before .before .before .before .before .halves .ensures up) (hv-in up (z .pre .3 up) (z .pre .1 up .h) (z .pre .2 up .v))) in
-          let b = more-in up (2 ^ 22 + 423) (lit≤ tt) (c .before .before .before .products .ensures up) (c .before .before .sums2 .ensures up) (z .pre .1 up .X) (z .pre .2 up .y) a in
-          let all = more-in up (2 ^ 22 + 425) (lit≤ tt) (c .before .products2 .ensures up) (c .sums3 .ensures up) (z .pre .1 up .Y) (z .pre .2 up .c) b in
+          let b = more-in up (largest-exponent + 423) (lit≤ tt) (c .before .before .before .products .ensures up) (c .before .before .sums2 .ensures up) (z .pre .1 up .X) (z .pre .2 up .y) a in
+          let all = more-in up (largest-exponent + 425) (lit≤ tt) (c .before .products2 .ensures up) (c .sums3 .ensures up) (z .pre .1 up .Y) (z .pre .2 up .c) b in
           widen (lit≤ tt) all),
       divisor-low (z .args .n),
       divisor-max (z .args .n) (z .pre .0),

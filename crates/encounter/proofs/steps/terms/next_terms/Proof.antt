@@ -1,8 +1,8 @@
-use Prim.Native.Nat.{_^_}
 use native.Mathlib.Numerals.{add-two}
 use native.Mathlib.Omega.{arith}
 use lib.Dec.{lit≤}
 use Rattle.exact.specs.Arithmetic.{rounded}
+use Rattle.exact.specs.Private.Ranges.{largest-exponent}
 use Rattle.exact.specs.Steps.{next-p, next-v, next-y, next}
 use Rattle.exact.proofs.Ranges.{widen}
 use Rattle.exact.proofs.Growth.{c-in}
@@ -33,7 +33,7 @@ next-product-requires c κs =
     let z = c .before .before .before .before .before .before in (
       c .before .reciprocal-of .ensures .1,
       (λ up. z .pre .1 up .u),
-      (λ up. rw (c .next-term .ensures up) (widen (lit≤ tt) (c-in (in-range up) _ (z .pre .1 up) (2 ^ 22) (z .args .n) (z .pre .0) (z .pre .2 up)))),
+      (λ up. rw (c .next-term .ensures up) (widen (lit≤ tt) (c-in (in-range up) _ (z .pre .1 up) largest-exponent (z .args .n) (z .pre .0) (z .pre .2 up)))),
       (λ up. z .pre .2 up .p),
     )
 
@@ -41,7 +41,7 @@ next-v-and-y-requires : tie.Need-next-v-and-y-requires
 next-v-and-y-requires c κs =
     let z = c .before .before .before .before .before .before .before in (
       c .before .before .reciprocal-of .ensures .1,
-      (λ up. rw (c .before .next-term .ensures up) (c-in (in-range up) _ (z .pre .1 up) (2 ^ 22) (z .args .n) (z .pre .0) (z .pre .2 up))),
+      (λ up. rw (c .before .next-term .ensures up) (c-in (in-range up) _ (z .pre .1 up) largest-exponent (z .args .n) (z .pre .0) (z .pre .2 up))),
       (λ up. widen (lit≤ tt) (product-of up (c .before .before .before .before .products .ensures up) (z .pre .1 up .h) (z .pre .2 up .v))),
       (λ up. widen (lit≤ tt) (product-of up (c .before .before .before .products2 .ensures up) (z .pre .1 up .h) (z .pre .2 up .y))),
     )
@@ -51,7 +51,7 @@ sums-requires c κs =
     let z = c .before .before .before .before .before .before .before .before .before .before in
     λ up. (
       widen (lit≤ tt) (z .pre .2 up .sum),
-      rw (c .before .before .before .before .next-term .ensures up) (widen (lit≤ tt) (c-in (in-range up) _ (z .pre .1 up) (2 ^ 22) (z .args .n) (z .pre .0) (z .pre .2 up))),
+      rw (c .before .before .before .before .next-term .ensures up) (widen (lit≤ tt) (c-in (in-range up) _ (z .pre .1 up) largest-exponent (z .args .n) (z .pre .0) (z .pre .2 up))),
     )
 
 returns : tie.Need-returns
