@@ -12,8 +12,7 @@ use Rattle.exact.specs.Steps.{side-letters, M}
 use Rattle.exact.specs.Refusals.{Accepted}
 use Rattle.exact.proofs.Fractions.{≼-trans, drop-last, num-pos}
 use Rattle.exact.proofs.Accepted.{facts}
-use Rattle.exact.proofs.Growth.{letters-in, bound-in}
-use Rattle.exact.proofs.Exponents.{in-range}
+use Rattle.exact.proofs.Exponents.{M-in}
 use Rattle.exact.proofs.Majorant.{m}
 use Rattle.exact.proofs.Enclosure.{m-le-M}
 use Rattle.encounter.specs.declared.state.Session.{Session}
@@ -32,7 +31,7 @@ u-pos h = let R = facts h .bounds .R-pos in mul-pos R R
 positive : {E : Encounter} → Accepted E → Positive (M E)
 unfolding M side-letters value
 positive {E} h = record {
-  range = bound-in (in-range true) _ (letters-in (in-range true) (facts h .bounds));
+  range = M-in (facts h .bounds);
   above-0 = first-pos _ _ (num-pos (u-le-M E) (u-pos h));
 }
 

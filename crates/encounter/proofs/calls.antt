@@ -10,3 +10,4 @@ pub mod AcceptedReads
 pub mod Classes
 pub mod PrintedEnds
 pub mod ExactCount
+pub mod LargestOrder

@@ -2,14 +2,14 @@
 -- proved.
 use mathlib.Core.Path.{_≡_}
 use mathlib.Core.Bool.{Bool, true, false}
-use Prim.Native.Nat.{ℕ, suc, _-_, _*_, _≤_, _<_}
+use Prim.Native.Nat.{ℕ, suc, _+_, _-_, _*_, _≤_, _<_}
 use lib.IntN.{pos, _-ℤ_}
 use Rattle.exact.specs.declared.Encounter.{Encounter}
 use Rattle.exact.specs.declared.Conjunction.{Conjunction}
 use Rattle.exact.specs.declared.Scaled.{Scaled}
 use Rattle.exact.specs.declared.Traced.{Traced}
 use Rattle.exact.specs.Fraction.{Frac, _≼_, _≈_, _⊗_, _÷_, whole, sum}
-use Rattle.exact.specs.Numbers.{exponential-cut}
+use Rattle.exact.specs.Numbers.{exponential-cut, largest-order}
 use Rattle.exact.specs.Private.Round.{round}
 use Rattle.exact.specs.Scaled.{IsRound, value, half, double, lost}
 use Rattle.exact.specs.Losses.{traced-letters, traced-terms, letter-numbers, term-numbers, term-lost, either-lost}
@@ -43,6 +43,18 @@ mirrored-conjunction C = record { encounter = mirrored (C .encounter); object = 
 pub record Readable (s : Session) : Type 0 where
   pub reached : Reached s
   pub accepted : call reads s .answer .refusal ≡ 0
+
+-- request #109: on from the session s, `count` terms lead to an order up to the largest at which a read is accepted
+pub record ReadLater (s : Session) : Type 0 where
+  pub count : ℕ
+  pub in-limit : s .N + count ≤ largest-order
+  pub order : call (adds count) s .session .N ≡ s .N + count
+  pub same : call (adds count) s .session .encounter ≡ s .encounter
+  pub readable : Readable (call (adds count) s .session)
+
+-- request #109: at each order up to the largest a read of the encounter is refused as 23, whatever its object number and its time
+abbrev pub NeverRead : Encounter → Type 0
+NeverRead E = (C : Conjunction) → C .encounter ≡ E → (N : ℕ) → 1 ≤ N → N ≤ largest-order → call reads (state C N) .answer .refusal ≡ 23
 
 -- two such sessions, of one encounter
 pub record OneEncounter (s s′ : Session) : Type 0 where
@@ -129,3 +141,8 @@ pub record Claims : Type 0 where
   pub same-ways : (E : Encounter) (n : ℕ) → term-lost false E n ≡ term-lost true E n
   -- the count of every accepted read
   pub exact-counts : {s : Session} → Readable s → CountedTerms (s .encounter) (s .N) (call reads s .answer .exact)
+  -- request #109: an encounter that is begun, whatever calls came before, can be read at some order up to the largest
+  pub begun-can-be-read : (s : Session) → Reached s → 0 < s .N → ReadLater s
+  -- "Encounters that could then never be read should be stopped at the start": one that a begin refuses as 11 could never be read
+  pub stopped-never-read : (E : Encounter) (s : Session) → call (begins E) s .answer .refusal ≡ 11 → NeverRead E
+  pub stopped-conjunction-never-read : (C : Conjunction) (s : Session) → call (begins-conjunction C) s .answer .refusal ≡ 11 → NeverRead (C .encounter)

@@ -1,5 +1,6 @@
--- Document 01, 'Encounters on each edge': the cases marked ★, one table, and beside them the exact letters of one encounter with unequal sigmas and two misses,
--- which no ★ encounter has, with some of its rounded numbers and its ends at N = 3; and the counts of request #105. `All stars` is one statement (claim `star-cases`).
+-- Document 01, 'Encounters on each edge': the cases marked ★, one table, as request #109 changes them; and beside them an encounter at test 11's limit, the exact
+-- letters of one encounter with unequal sigmas and two misses, which no ★ encounter has, with some of its rounded numbers and its ends at N = 3; and the counts of
+-- request #105. `All stars` is one statement (claim `star-cases`).
 use mathlib.Core.Path.{_≡_}
 use mathlib.Core.Bool.{true, false}
 use mathlib.Core.List.{List, [], _∷_}
@@ -32,7 +33,7 @@ abbrev pub All : List Star → Type 0
 All [] = Unit {0}
 All (s ∷ l) = Holds s × All l
 
--- (10, 10, 10, 0, 0), (8, 1, 1, 8, 0), (8, 1, 1, 8, 1), (8, 1, 1, −8, 0), (6, 10, 5, 7, −4), and (131071, 131072, 131071, 0, 0)
+-- (10, 10, 10, 0, 0), (8, 1, 1, 8, 0), (8, 1, 1, 8, 1), (8, 1, 1, −8, 0), (6, 10, 5, 7, −4), (131071, 131072, 131071, 0, 0) and (32, 4, 4, 16, 15)
 abbrev pub E₁ : Encounter
 E₁ = record { R = 10; sx = 10; sy = 10; xm = pos 0; ym = pos 0 }
 
@@ -50,6 +51,9 @@ E₅ = record { R = 6; sx = 10; sy = 5; xm = pos 7; ym = negsuc 3 }
 
 abbrev pub E₆ : Encounter
 E₆ = record { R = 131071; sx = 131072; sy = 131071; xm = pos 0; ym = pos 0 }
+
+abbrev pub E₇ : Encounter
+E₇ = record { R = 32; sx = 4; sy = 4; xm = pos 16; ym = pos 15 }
 
 -- 1/2 and 1/8
 abbrev pub a-half : Scaled
@@ -100,21 +104,21 @@ stars =
     ∷ scaled-is (side-letters false E₆ .X) nought
     ∷ scaled-is (side-letters true E₆ .X) nought
     ∷ number-is (state (no-object E₆) 1 .lossless) 0
-    -- ★ (8, 1, 1, 8, 0): t = 64, accepted; M = 1,056.
+    -- ★ (8, 1, 1, 8, 0): t = 64; M = 1,056; by request #109 no longer accepted: 11.
     ∷ fraction-is (t E₂) (whole 64)
     ∷ fraction-is (value (side-letters false E₂ .t)) (whole 64)
     ∷ fraction-is (value (side-letters true E₂ .t)) (whole 64)
-    ∷ number-is (call (begins E₂) empty .answer .refusal) 0
+    ∷ number-is (call (begins E₂) empty .answer .refusal) 11
     ∷ fraction-is (value (M E₂)) (whole 1056)
-    -- ★ Same: N = 2,109 gives 23, N = 2,110 is read.
-    ∷ number-is (call reads (state (no-object E₂) 2109) .answer .refusal) 23
-    ∷ number-is (call reads (state (no-object E₂) 2110) .answer .refusal) 0
+    -- request #109, (32, 4, 4, 16, 15): 2M = 1,026 is not above 1,026, so accepted; N = 1,023 gives 23, N = 1,024 is read
+    ∷ fraction-is (value (M E₇)) (whole 513)
+    ∷ number-is (call (begins E₇) empty .answer .refusal) 0
+    ∷ number-is (call reads (state (no-object E₇) 1023) .answer .refusal) 23
+    ∷ number-is (call reads (state (no-object E₇) 1024) .answer .refusal) 0
     -- ★ (8, 1, 1, 8, 1): 7.
     ∷ number-is (call (begins E₃) empty .answer .refusal) 7
     -- ★ xm = −8 in place of 8: the same answers.
     ∷ answer-is (call (begins E₄) empty .answer) (call (begins E₂) empty .answer)
-    ∷ answer-is (call reads (state (no-object E₄) 2109) .answer) (call reads (state (no-object E₂) 2109) .answer)
-    ∷ answer-is (call reads (state (no-object E₄) 2110) .answer) (call reads (state (no-object E₂) 2110) .answer)
     -- (6, 10, 5, 7, −4): no ★ case of the paper; its letters by hand, its rounded numbers by the reference in Python
     ∷ fraction-is (u E₅) (18 over 25)
     ∷ fraction-is (b E₅) (9 over 50)

@@ -22,6 +22,7 @@ use crate::calls::ends::may_read;
 use crate::calls::ends::upper_end;
 use crate::calls::opening::opened;
 use crate::calls::tests::passes_test_7;
+use crate::calls::tests::passes_test_11;
 use crate::calls::tests::test_inputs;
 use crate::calls::tests::test_object;
 use crate::state::Answer;
@@ -32,7 +33,9 @@ use crate::state::Side;
 use crate::state::Terms;
 use crate::steps::counts::Counts;
 use crate::steps::counts::counts_after;
+use crate::steps::letters::bound;
 use crate::steps::letters::letters;
+use crate::steps::losses::letter_numbers;
 use crate::steps::progress::Progress;
 use crate::steps::progress::advance;
 use exact::Conjunction;
@@ -86,7 +89,7 @@ impl Session {
     }
 }
 
-// Begins an encounter: refused as 3 to 7, else at order N = 1, with object and time 0.
+// Begins an encounter: refused as 3 to 7 or 11, else at order N = 1, with object and time 0.
 pub fn begin(s: Session, E: Encounter) -> Called
     requires { ⌜ Reached s ⌝ }
     ensures { λ r. ⌜ (r ≡ call (begins E) s) × Reached (r .session) ⌝ }
@@ -97,17 +100,23 @@ pub fn begin(s: Session, E: Encounter) -> Called
     }
     let above = letters(true, E);
     if passes_test_7(above.t.number) {
-        let session = opened(E, above);
-        Called {
-            answer: count_to(1),
-            session,
+        let below = letters(false, E);
+        let M = bound(letter_numbers(above));
+        if passes_test_11(M) {
+            let session = opened(E, below, above, M);
+            Called {
+                answer: count_to(1),
+                session,
+            }
+        } else {
+            refused_on(11, s)
         }
     } else {
         refused_on(7, s)
     }
 }
 
-// Begins an encounter with its object number and its time: refused as 3 to 7, then as 9.
+// Begins an encounter with its object number and its time: refused as 3 to 7 or 11, then as 9.
 pub fn begin_conjunction(s: Session, C: Conjunction) -> Called
     requires { ⌜ Reached s ⌝ }
     ensures { λ r. ⌜ (r ≡ call (begins-conjunction C) s) × Reached (r .session) ⌝ }

@@ -13,7 +13,7 @@ use Rattle.exact.specs.declared.Encounter.{Encounter}
 use Rattle.exact.specs.Series.{g}
 use Rattle.exact.specs.Steps.{side-letters}
 use Rattle.exact.specs.Numbers.{largest-length, largest-t}
-use Rattle.exact.specs.Refusals.{outside, miss-outside, refuses-3, refuses-4, refuses-5, refuses-6, refuses-7, begin-refusal, refuses-9, test-9, Accepted}
+use Rattle.exact.specs.Refusals.{outside, miss-outside, refuses-3, refuses-4, refuses-5, refuses-6, refuses-7, refuses-11, begin-refusal, refuses-9, test-9, Accepted}
 use Rattle.exact.specs.Private.Ranges.{tests-3-to-6, Bounds}
 use Rattle.exact.proofs.Integers.{balanced, bal-diff}
 use Rattle.exact.proofs.Order.{not-above}
@@ -75,12 +75,15 @@ bounds E rest h =
 pub record Facts (E : Encounter) : Type 0 where
   pub bounds : Bounds E
   pub t-max : value (side-letters true E .t) ≼ whole largest-t
+  -- test 11
+  pub readable : refuses-11 E ≡ false
 
 pub facts : {E : Encounter} → Accepted E → Facts E
 unfolding begin-refusal tests-3-to-6 refuses-7
 facts {E} h =
-    let (b, r) = bounds E (cond (refuses-7 E) 7 0) (h .passes) in
-    record { bounds = b; t-max = not-above _ _ (passed 6 (refuses-7 E) 0 r .0) }
+    let (b, r) = bounds E (cond (refuses-7 E) 7 (cond (refuses-11 E) 11 0)) (h .passes) in
+    let (t7, r7) = passed 6 (refuses-7 E) _ r in
+    record { bounds = b; t-max = not-above _ _ t7; readable = passed 10 (refuses-11 E) 0 r7 .0 }
 
 -- where test 9 passes, so did those before
 pub test-9-passed : (earlier object : ℕ) → test-9 earlier object ≡ 0 → (earlier ≡ 0) × (object ≡ 0 → ⊥)

@@ -10,7 +10,7 @@ use Rattle.exact.specs.declared.Scaled.{Scaled}
 use Rattle.exact.specs.Fraction.{Frac, _≼_, _≈_, _⊗_, _over_, whole, above}
 use Rattle.exact.specs.Scaled.{value, OnSide}
 use Rattle.exact.specs.Decimals.{table-length, entry, times-power, reaches, least-power, floor}
-use Rattle.exact.proofs.Fractions.{_≺_, ≼-refl, ≼-trans, ≼-≺, ≼-of-≺, ≺-or-≼, ≼-of, ≽-of, lt-or-le, mul-mono, mul-assoc}
+use Rattle.exact.proofs.Fractions.{_≺_, ≼-refl, ≼-trans, ≼-≺, ≼-of-≺, ≺-or-≼, ≼-of, ≽-of, lt-or-le, mul-mono, mul-assoc, whole-mono}
 use Rattle.exact.proofs.Order.{at-most-yes, at-most-no, at-most-holds}
 use Rattle.exact.proofs.Rounding.{slack, Close, round-is, round-close, round-mono}
 use Rattle.exact.proofs.Operations.{whole-exact}
@@ -41,10 +41,6 @@ floor-most q n h = le-of-suc-le-suc (div-lt-iff-lt-mul (q .pos) .1 (omega (arith
 pub floor-least : (q : Frac) (n : ℕ) → whole n ≼ q → n ≤ floor q
 unfolding floor whole
 floor-least q n h = le-div-iff-mul-le (q .pos) .1 (omega (arith, h .le))
-
-pub ordered : {m n : ℕ} → m ≤ n → whole m ≼ whole n
-unfolding whole
-ordered h = record { le = omega arith }
 
 strictly : {m n : ℕ} → m < n → whole m ≺ whole n
 unfolding whole
@@ -129,7 +125,7 @@ top-twice = record { lt = lit< tt }
 module _ (up : Bool) (x : Scaled) (small : value x ≼ whole 1) where
   -- 10^0, 10^1 and 10^2 do not
   pub not-two : (k : ℕ) → k ≤ 2 → reaches up x k ≡ false
-  not-two k l = not-reached up x k (≼-≺ (mul-mono (mul-mono (mul-mono small (ordered (pow-le-pow-right {n = 10} (lit< tt) l))) (≼-refl ε)) (≼-refl ε)) few)
+  not-two k l = not-reached up x k (≼-≺ (mul-mono (mul-mono (mul-mono small (whole-mono (pow-le-pow-right {n = 10} (lit< tt) l))) (≼-refl ε)) (≼-refl ε)) few)
     where
       few : whole 1 ⊗ whole (10 ^ 2) ⊗ ε ⊗ ε ≺ whole 1000
       few = unfold _⊗_ whole slack _over_ in record { lt = lit< tt }

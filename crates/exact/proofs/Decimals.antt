@@ -11,10 +11,10 @@ use Rattle.exact.specs.declared.Scaled.{Scaled}
 use Rattle.exact.specs.Fraction.{Frac, _≼_, _≈_, _⊕_, _⊗_, _over_, whole}
 use Rattle.exact.specs.Scaled.{value}
 use Rattle.exact.specs.Decimals.{table-length, times-power, reaches, least-power, floor, digits-of, at-power, one-or-more, zero-decimal, least-decimal, too-small, below-1, decimal-of, worth, Printed, Found, Near}
-use Rattle.exact.proofs.Fractions.{_≺_, ≼-refl, ≼-trans, ≼-≺, ≼-of-≺, ≺-irrefl, ≼-of, lt-or-le, mul-mono}
+use Rattle.exact.proofs.Fractions.{_≺_, ≼-refl, ≼-trans, ≼-≺, ≼-of-≺, ≺-irrefl, ≼-of, lt-or-le, mul-mono, whole-mono}
 use Rattle.exact.proofs.Order.{not-above}
 use Rattle.exact.proofs.Rounding.{slack}
-use Rattle.exact.proofs.DecimalProducts.{ε, floor-below, floor-above, floor-least, ordered, product-below, product-above, reached, unreached, next, before, here, lower-side, upper-side, three-few, most}
+use Rattle.exact.proofs.DecimalProducts.{ε, floor-below, floor-above, floor-least, product-below, product-above, reached, unreached, next, before, here, lower-side, upper-side, three-few, most}
 use Rattle.exact.proofs.DecimalCases.{digits-cut, digits-same, small-zero, small-lower, small-upper, is-one, is-found, is-small, small, low-power}
 use Rattle.exact.proofs.LastDigit.{not-below-unit, Digits-print, lower-at, upper-at}
 
@@ -61,7 +61,7 @@ module _ (x : Scaled) (j : ℕ) (l : suc j < table-length) (low : 3 ≤ suc j) w
       go : Dec (w ≡ 10000) → Digits-print false x (at-power (suc j) (digits-of false w))
       go (yes e) =
           rw (← digits-cut false w refl e)
-          (lower-at x (suc j) 9999 l low (lit≤ tt) (lit< tt) (≼-trans (ordered (omega (arith, e))) not-above-w) (≼-trans (next false x j u) top))
+          (lower-at x (suc j) 9999 l low (lit≤ tt) (lit< tt) (≼-trans (whole-mono (omega (arith, e))) not-above-w) (≼-trans (next false x j u) top))
       go (no e) =
           let m = most false x j u in
           rw (← digits-same false w refl e)

@@ -1,5 +1,5 @@
--- Every exponent that the steps reach: at index n within 700n + 400, so far inside an i32 for every accepted encounter and every order to 4,096.
-use mathlib.Core.Bool.{Bool}
+-- Every exponent that the steps reach: at index n within 700n + 400, so far inside an i32 for every accepted encounter and every order to the largest.
+use mathlib.Core.Bool.{Bool, true}
 use mathlib.Core.Logic.{inr}
 use lib.Dec.{lit<, lit≤}
 use Rattle.exact.specs.declared.Encounter.{Encounter}
@@ -8,8 +8,9 @@ use Rattle.exact.specs.Private.Ranges.{InRange, Bounds}
 use Rattle.exact.specs.Private.Round.{round}
 use Rattle.exact.specs.Series.{u, b, zx, zy, g}
 use Rattle.exact.specs.Arithmetic.{rounded}
+use Rattle.exact.specs.Steps.{side-letters, M}
 use Rattle.exact.proofs.Ranges.{widen, product-range, sum-range, over-range, ratio-range, half-range}
-use Rattle.exact.proofs.Growth.{Keeps, all-fractions}
+use Rattle.exact.proofs.Growth.{Keeps, all-fractions, letters-in, bound-in}
 
 -- ranges are kept
 pub in-range : (up : Bool) → Keeps (rounded up 32) (InRange 32)
@@ -30,3 +31,8 @@ one-in = record { is-scaled = inr (record { low = lit≤ tt; high = lit< tt }); 
 pub fractions-in : (up : Bool) {E : Encounter} → Bounds E → (InRange 32 177 (round up 32 (u E))) × (InRange 32 177 (round up 32 (b E))) × (InRange 32 177 (round up 32 (zx E))) × (InRange 32 177 (round up 32 (zy E))) × (InRange 32 177 (round up 32 (g E)))
 unfolding rounded
 fractions-in up f = all-fractions (in-range up) f
+
+-- M of an accepted encounter
+pub M-in : {E : Encounter} → Bounds E → InRange 32 400 (M E)
+unfolding M side-letters
+M-in f = bound-in (in-range true) _ (letters-in (in-range true) f)

@@ -101,6 +101,10 @@ pub zero-least : (p : Frac) → whole 0 ≼ p
 unfolding whole
 zero-least p = record { le = omega arith }
 
+pub whole-mono : {m n : ℕ} → m ≤ n → whole m ≼ whole n
+unfolding whole
+whole-mono h = record { le = omega arith }
+
 pub ruleset mono = (≼-trans, ≼-refl, add-mono, mul-mono, div-mono, pow-mono)
 
 -- ---- equality of value

@@ -6,7 +6,7 @@ use Rattle.exact.specs.Fraction.{Frac, _≼_, _≈_, _⊕_, _⊗_, _÷_,
 use Rattle.exact.specs.declared.Encounter.{Encounter}
 use Rattle.exact.specs.Numbers.{largest-t, exponential-cut}
 use Rattle.exact.specs.Series.{factorial, dot, u, h, X, Y, a₀, F-without-Y, F, upto, a, c, exponential-term}
-use Rattle.exact.proofs.Fractions.{≼-refl, ≼-trans, ≼-of, ≽-of, add-mono, mul-mono, div-mono, pow-mono, mono, ≈-refl, ≈-sym, ≈-trans, cong, div-cong, mul-assoc, mul-add, drop-last}
+use Rattle.exact.proofs.Fractions.{≼-refl, ≼-trans, ≼-of, ≽-of, add-mono, mul-mono, div-mono, pow-mono, mono, ≈-refl, ≈-sym, ≈-trans, cong, div-cong, mul-assoc, mul-add, drop-last, whole-mono}
 use Rattle.exact.proofs.ExactTerms.{factorial-step}
 use Rattle.exact.proofs.Unrounded.{power-step}
 
@@ -138,10 +138,6 @@ module _ (c d : ℕ → Frac) (N : ℕ) (below : (k : ℕ) → c k ≼ d k) (hal
 
   tail : (N′ : ℕ) → N ≤ N′ → sum c N′ ≼ sum c N ⊕ whole 2 ⊗ d N
   tail N′ l = let (j, e) = le-dest l in rw (← e) (≼-trans (drop-last _ _) (tail-step j))
-
-whole-mono : {i j : ℕ} → i ≤ j → whole i ≼ whole j
-unfolding whole
-whole-mono l = record { le = omega arith }
 
 halving-form : (x t : Frac) (k : ℕ) → whole 2 ⊗ (x ⊗ t ÷ suc k) ≼ x ⊗ (whole 2 ⊗ t) ÷ suc k
 unfolding _⊗_ _÷_ whole

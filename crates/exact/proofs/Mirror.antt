@@ -14,7 +14,7 @@ use Rattle.exact.specs.Arithmetic.{Arithmetic, rounded, traced}
 use Rattle.exact.specs.Least.{least}
 use Rattle.exact.specs.Losses.{traced-letters, traced-terms, term-lost, either-lost, exact-terms}
 use Rattle.exact.specs.Steps.{LettersOf, PowersOf, letters, start, terms, powers, bound, tail-term, side-letters, side-start, side-terms, side-powers, sum-to, M, d, tail-bound, exponential-with-tail, exponential-sum, r256, lower-end, upper-end}
-use Rattle.exact.specs.Refusals.{miss-outside, refuses-3, refuses-4, refuses-5, refuses-6, refuses-7, begin-refusal, refuses-23}
+use Rattle.exact.specs.Refusals.{miss-outside, refuses-3, refuses-4, refuses-5, refuses-6, refuses-7, refuses-11, begin-refusal, refuses-23}
 
 ap₃ : {A B C S : Type 0} (f : A → B → C → S) {a a′ : A} {b b′ : B} {c c′ : C} → a ≡ a′ → b ≡ b′ → c ≡ c′ → f a b c ≡ f a′ b′ c′
 ap₃ f p q r = λ i. f (p i) (q i) (r i)
@@ -67,7 +67,7 @@ miss-mirror (pos (suc n)) = refl
 miss-mirror (negsuc n) = refl
 
 pub refusal-mirror : (E : Encounter) → begin-refusal (mirrored E) ≡ begin-refusal E
-unfolding begin-refusal refuses-3 refuses-4 refuses-5 refuses-6 refuses-7
+unfolding begin-refusal refuses-3 refuses-4 refuses-5 refuses-6 refuses-7 refuses-11 M
 refusal-mirror E = rw (miss-mirror (E .xm), letters-mirror true E)
 
 -- the count of exact terms

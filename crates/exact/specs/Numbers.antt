@@ -13,9 +13,9 @@ largest-t = 64
 abbrev pub exponential-cut : ℕ
 exponential-cut = 256
 
--- test 22
+-- tests 22 and 11: by request #109, in place of 4,096
 abbrev pub largest-order : ℕ
-largest-order = 4096
+largest-order = 1024
 
 -- bytes: refusal 8
 abbrev pub largest-script : ℕ

@@ -1,5 +1,5 @@
--- Document 01, 'Script records': both tables of refusals, in their order, each test once, with test 9 of request #104 of document 02; then test 10 of request #107, of the
--- division. A test is true where it refuses.
+-- Document 01, 'Script records': both tables of refusals, in their order, each test once, with tests 9 and 11 of requests #104 and #109 of document 02; then test 10 of
+-- request #107, of the division. A test is true where it refuses.
 use mathlib.Core.Path.{_≡_}
 use mathlib.Core.Bool.{Bool, true, not, cond, _&&_, _||_}
 use mathlib.Core.List.{List}
@@ -44,6 +44,10 @@ outside n = eqb n 0 || ltb largest-length n
 unfoldable pub miss-outside : ℤ → Bool
 miss-outside z = ltb largest-length (natAbs z)
 
+-- 2M above n: tests 11 and 23
+abbrev pub twice-M-above : Encounter → (n : ℕ) → Bool
+twice-M-above E n = above (whole 2 ⊗ value (M E)) (whole n)
+
 module _ (E : Encounter) where
   -- 3: R is 0 or above 10,000,000
   unfoldable pub refuses-3 : Bool
@@ -65,19 +69,23 @@ module _ (E : Encounter) where
   unfoldable pub refuses-7 : Bool
   refuses-7 = above (value (side-letters true E .t)) (whole largest-t)
 
-  -- the number of the first of tests 3 to 7 that refuses the encounter, or 0
+  -- 11: begin: 2M above 1,026; by request #109, "after test 7 and before 9". 1,026 is N + 2 at the largest order: test 23 refuses a read there, and at each smaller order
+  unfoldable pub refuses-11 : Bool
+  refuses-11 = twice-M-above E (largest-order + 2)
+
+  -- the number of the first of tests 3 to 7 and 11 that refuses the encounter, or 0
   unfoldable pub begin-refusal : ℕ
-  begin-refusal = cond refuses-3 3 (cond refuses-4 4 (cond refuses-5 5 (cond refuses-6 6 (cond refuses-7 7 0))))
+  begin-refusal = cond refuses-3 3 (cond refuses-4 4 (cond refuses-5 5 (cond refuses-6 6 (cond refuses-7 7 (cond refuses-11 11 0)))))
 
 -- 9: kind 4: object number is 0; by request #104
 unfoldable pub refuses-9 : (object : ℕ) → Bool
 refuses-9 object = eqb object 0
 
--- request #104: "as 9 after test 7"; earlier is the number that the tests before give
+-- request #104: "as 9 after test 7", and after 11; earlier is the number that the tests before give
 unfoldable pub test-9 : (earlier object : ℕ) → ℕ
 test-9 earlier object = cond (eqb earlier 0) (cond (refuses-9 object) 9 0) earlier
 
--- none of tests 3 to 7 refuses the encounter
+-- none of tests 3 to 7 and 11 refuses the encounter
 pub record Accepted (E : Encounter) : Type 0 where
   pub passes : begin-refusal E ≡ 0
 
@@ -93,13 +101,13 @@ abbrev pub test-21 : History → (Encounter → ℕ → ℕ) → ℕ
 test-21 no-encounter rest = 21
 test-21 (encounter-at C N) rest = rest (C .encounter) N
 
--- 22: add: N + count above 4,096
+-- 22: add: N + count above 1,024; by request #109, in place of 4,096
 unfoldable pub refuses-22 : (N count : ℕ) → Bool
 refuses-22 N count = ltb largest-order (N + count)
 
 -- 23: read: 2M above N + 2
 unfoldable pub refuses-23 : Encounter → (N : ℕ) → Bool
-refuses-23 E N = above (whole 2 ⊗ value (M E)) (whole (N + 2))
+refuses-23 E N = twice-M-above E (N + 2)
 
 -- the number under which a request is refused, or 0 where no test written for it refuses it
 unfoldable pub refusal : History → Request → ℕ

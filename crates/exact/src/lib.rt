@@ -15,7 +15,7 @@ pub const LARGEST_T: u32 = 64;
 
 pub const EXPONENTIAL_CUT: u64 = 256;
 
-pub const LARGEST_ORDER: u32 = 4096;
+pub const LARGEST_ORDER: u32 = 1024;
 
 pub const LARGEST_SCRIPT: usize = 65536;
 

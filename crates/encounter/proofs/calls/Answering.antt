@@ -14,7 +14,7 @@ use Rattle.exact.specs.Numbers.{largest-length, largest-order}
 use Rattle.exact.specs.Private.Ranges.{tests-3-to-6, Bounds}
 use Rattle.exact.specs.Steps.{lower-end, upper-end}
 use Rattle.exact.specs.Records.{Request, begin, begin-conjunction, add, read, bad}
-use Rattle.exact.specs.Refusals.{History, outside, miss-outside, refuses-3, refuses-4, refuses-5, refuses-6, refuses-7, begin-refusal, Accepted, no-encounter, encounter-at, refuses-22, refuses-23, refusal}
+use Rattle.exact.specs.Refusals.{History, outside, miss-outside, refuses-3, refuses-4, refuses-5, refuses-6, refuses-7, refuses-11, begin-refusal, Accepted, no-encounter, encounter-at, refuses-22, refuses-23, refusal}
 use Rattle.exact.proofs.Accepted.{bounds}
 use Rattle.encounter.specs.declared.state.Session.{Session}
 use Rattle.encounter.specs.declared.state.Answer.{Answer}
@@ -163,9 +163,19 @@ module _ (E : Encounter) (rest : ℕ) where
       go false false false true h = let f : ⊥ = omega arith in absurd f
       go false false false false h = refl
 
-by-tests : (E : Encounter) → begin-refusal E ≡ tests-3-to-6 E (cond (refuses-7 E) 7 0)
+by-tests : (E : Encounter) → begin-refusal E ≡ tests-3-to-6 E (cond (refuses-7 E) 7 (cond (refuses-11 E) 11 0))
 unfolding begin-refusal tests-3-to-6
 by-tests E = refl
+
+module _ (E : Encounter) (z : tests-3-to-6 E 0 ≡ 0) where
+  pub passed-bounds : Bounds E
+  passed-bounds = bounds E 0 z .0
+
+  tests-7-and-11 : begin-refusal E ≡ cond (refuses-7 E) 7 (cond (refuses-11 E) 11 0)
+  tests-7-and-11 = by-tests E ∙ late E _ z
+
+  pub accepted : refuses-7 E ≡ false → refuses-11 E ≡ false → Accepted E
+  accepted t m = record { passes = tests-7-and-11 ∙ rw (t, m) }
 
 module _ (E : Encounter) (s : Session) where
   -- refused by a test of 3 to 6
@@ -175,21 +185,17 @@ module _ (E : Encounter) (s : Session) where
       refused-is s (begin E) r (unfold refusal in by-tests E ∙ early E _ p ∙ sym e) (λ z. omega arith) f
 
   module _ (z : tests-3-to-6 E 0 ≡ 0) where
-    pub passed-bounds : Bounds E
-    passed-bounds = bounds E 0 z .0
-
-    test-7 : begin-refusal E ≡ cond (refuses-7 E) 7 0
-    test-7 = by-tests E ∙ late E _ z
-
     -- refused by test 7
     pub begin-7 : {a : Answer} → refuses-7 E ≡ true → a ≡ refused 7 → record { answer = a; session = s } ≡ call (begins E) s
-    begin-7 t f = refused-is s (begin E) 7 (unfold refusal in test-7 ∙ rw t) (λ z. omega arith) f
+    begin-7 t f = refused-is s (begin E) 7 (unfold refusal in tests-7-and-11 E z ∙ rw t) (λ z. omega arith) f
 
-    pub accepted : refuses-7 E ≡ false → Accepted E
-    accepted t = record { passes = test-7 ∙ rw t }
+    -- refused by test 11
+    pub begin-11 : {a : Answer} → refuses-7 E ≡ false → refuses-11 E ≡ true → a ≡ refused 11 → record { answer = a; session = s } ≡ call (begins E) s
+    begin-11 t m f = refused-is s (begin E) 11 (unfold refusal in tests-7-and-11 E z ∙ rw (t, m)) (λ z. omega arith) f
 
-    pub begin-taken : {a : Answer} {n : Session} → refuses-7 E ≡ false → a ≡ counted 1 → n ≡ state (no-object E) 1 → record { answer = a; session = n } ≡ call (begins E) s
-    begin-taken t f g = taken-is s (begin E) (unfold refusal in test-7 ∙ rw t) f g
+    pub begin-taken : {a : Answer} {n : Session} → refuses-7 E ≡ false → refuses-11 E ≡ false → a ≡ counted 1 → n ≡ state (no-object E) 1
+        → record { answer = a; session = n } ≡ call (begins E) s
+    begin-taken t m f g = taken-is s (begin E) (unfold refusal in accepted E z t m .passes) f g
 
 -- ---- add
 

@@ -13,6 +13,7 @@ use Rattle.encounter.proofs.calls.AcceptedReads.{no-object-no-time}
 use Rattle.encounter.proofs.calls.Classes.{classes, no-reversal, never-falls, alert-remains}
 use Rattle.encounter.proofs.calls.PrintedEnds.{decimals}
 use Rattle.encounter.proofs.calls.ExactCount.{exact-counts}
+use Rattle.encounter.proofs.calls.LargestOrder.{begun-can-be-read, stopped-never-read, stopped-conjunction-never-read}
 
 unrounded : (E : Encounter) → Unrounded E
 unfolding series exponential
@@ -48,4 +49,7 @@ claims = record {
   traced-numbers = λ up E. (letters-number up E, terms-number up E);
   same-ways = same-ways;
   exact-counts = exact-counts;
+  begun-can-be-read = begun-can-be-read;
+  stopped-never-read = stopped-never-read;
+  stopped-conjunction-never-read = stopped-conjunction-never-read;
 }

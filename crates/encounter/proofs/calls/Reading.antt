@@ -5,7 +5,7 @@ use Prim.Native.Nat.{ℕ, pred, _+_, _^_, _≤_, _<_}
 use native.Mathlib.Omega.{arith}
 use lib.Dec.{lit<, lit≤}
 use Rattle.exact.specs.declared.Scaled.{Scaled}
-use Rattle.exact.specs.Fraction.{_≼_, whole, _⊕_, _⊘_, at-most, above}
+use Rattle.exact.specs.Fraction.{_≼_, whole, _⊕_, _⊗_, _⊘_, at-most, above}
 use Rattle.exact.specs.Scaled.{U, value, double, Normal, IsScaled}
 use Rattle.exact.specs.Private.Ranges.{largest-exponent, InRange}
 use Rattle.exact.specs.Private.Round.{round}
@@ -15,8 +15,8 @@ use Rattle.exact.specs.Steps.{sum-to, M, d, tail-bound, exponential-with-tail, 
 use Rattle.exact.specs.Refusals.{refuses-23}
 use Rattle.exact.proofs.Fractions.{≼-trans, num-pos, drop-last}
 use Rattle.exact.proofs.Rounding.{round-is}
-use Rattle.exact.proofs.Operations.{normal, whole-exact}
-use Rattle.exact.proofs.Order.{sum-double, double-exact, at-most-cong}
+use Rattle.exact.proofs.Operations.{normal}
+use Rattle.exact.proofs.Order.{sum-double}
 use Rattle.exact.proofs.Ranges.{widen, sum-range, double-range, per-range}
 use Rattle.exact.proofs.Enclosure.{up, lower-powers-pos, lower-powers-le, le-upper-powers}
 use Rattle.encounter.specs.declared.state.Session.{Session}
@@ -140,6 +140,6 @@ module _ (s : Session) (b : Begun s) where
 
   -- ---- test 23
 
-  pub may-read-is : {x y : Scaled} {r : Bool} → x ≡ double (s .M) → y ≡ round false 32 (whole (s .N + 2)) → r ≡ at-most (value x) (value y) → r ≡ not (refuses-23 E (s .N))
+  pub may-read-is : {r : Bool} → r ≡ at-most (whole 2 ⊗ value (s .M)) (whole (s .N + 2)) → r ≡ not (refuses-23 E (s .N))
   unfolding refuses-23 above
-  may-read-is {x} {y} ex ey er = er ∙ rw (ex, ey) (at-most-cong _ _ _ _ (rw (← M-is s b) (double-exact (s .M))) (whole-exact false 32 (s .N + 2) (lit< tt) (omega (arith, b .high))) ∙ not-not _)
+  may-read-is e = e ∙ rw (M-is s b) (not-not _)

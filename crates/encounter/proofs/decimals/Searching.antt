@@ -16,14 +16,14 @@ use Rattle.exact.specs.Decimals.{table-length, entry, times-power, reaches, lea
 use Rattle.exact.specs.Private.Ranges.{InRange}
 use Rattle.encounter.specs.Private.Loops.{InBinade}
 use Rattle.exact.specs.Private.Round.{round}
-use Rattle.exact.proofs.Fractions.{_≺_, ≼-trans}
+use Rattle.exact.proofs.Fractions.{_≺_, ≼-trans, whole-mono}
 use Rattle.exact.proofs.Order.{at-most-yes}
 use Rattle.exact.proofs.Integers.{pos-diff, neg-diff}
 use Rattle.exact.proofs.Ranges.{widen, product-range, fraction-range}
 use Rattle.exact.proofs.Rounding.{round-is}
 use Rattle.exact.proofs.Tables.{table, agree}
 use Rattle.exact.proofs.Least.{least-is}
-use Rattle.exact.proofs.DecimalProducts.{ε-square, ordered, too-low, under, floor-least, floor-below, reached}
+use Rattle.exact.proofs.DecimalProducts.{ε-square, too-low, under, floor-least, floor-below, reached}
 use Rattle.encounter.proofs.decimals.Wholes.{flat}
 
 -- ---- where it begins
@@ -112,7 +112,7 @@ module _ (up : Bool) (x : Scaled) (k : ℕ) where
   module _ {w : ℕ} (f : w ≡ floor (value (times-power up x k))) where
     pub reaches-yes : 1000 ≤ w → reaches up x k ≡ true
     unfolding reaches
-    reaches-yes l = at-most-yes _ _ (≼-trans (ordered (rw f at l)) (floor-below _))
+    reaches-yes l = at-most-yes _ _ (≼-trans (whole-mono (rw f at l)) (floor-below _))
 
     pub reaches-no : (1000 ≤ w → ⊥) → reaches up x k ≡ false
     reaches-no l = go (reaches up x k) refl

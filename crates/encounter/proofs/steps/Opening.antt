@@ -10,7 +10,7 @@ use Rattle.exact.specs.Private.Ranges.{InRange, Bounds, Letters-in}
 use Rattle.exact.specs.declared.Encounter.{Encounter}
 use Rattle.exact.specs.Refusals.{Accepted}
 use Rattle.exact.specs.Steps.{LettersOf, TermsOf, start, first, terms, next-d, tail-term, bound, side-letters, side-start, side-terms, exponential-sum, r256, M, d}
-use Rattle.exact.proofs.Growth.{letters-in, start-in, bound-in}
+use Rattle.exact.proofs.Growth.{letters-in, start-in}
 use Rattle.exact.proofs.Exponents.{in-range}
 use Rattle.exact.proofs.Losses.{letters-number, start-number, terms-number, first-exact}
 use Rattle.encounter.specs.declared.state.Letters.{Letters}
@@ -73,6 +73,19 @@ module _ (up : Bool) (E : Encounter) where
 
 -- ---- M and d(1)
 
+-- from the upper letters
+module _ (E : Encounter) {l : TracedLetters} (e : way-letters l ≡ traced-letters true E) {ln : Letters} (eln : ln ≡ held-letters (letter-numbers (way-letters l))) where
+  numbers-are : step-letters ln ≡ side-letters true E
+  numbers-are = ap step-letters eln ∙ letters-are true E e
+
+  pub numbers-fine : Bounds E → Letters-in (step-letters ln)
+  unfolding side-letters
+  numbers-fine f = subst Letters-in (sym numbers-are) (letters-in (in-range true) f)
+
+  pub bound-is : {m : Scaled} → m ≡ bound (rounded true 32) (step-letters ln) → m ≡ M E
+  unfolding M
+  bound-is em = em ∙ ap (bound (rounded true 32)) numbers-are
+
 -- from the upper side at order 1
 module _ (E : Encounter) {hi : Side} (eh : hi ≡ side true E 1) where
   start-is : hi .terms .c ≡ side-start true E
@@ -83,20 +96,9 @@ module _ (E : Encounter) {hi : Side} (eh : hi ≡ side true E 1) where
   unfolding side-start
   side-start-fine f = rw start-is (start-in (in-range true) f)
 
-  pub side-letters-fine : Bounds E → Letters-in (step-letters (hi .letters))
-  unfolding side-letters
-  side-letters-fine f = subst Letters-in (sym (letters-of-side true E 1 eh)) (letters-in (in-range true) f)
-
-  bound-is : {m : Scaled} → m ≡ bound (rounded true 32) (step-letters (hi .letters)) → m ≡ M E
-  unfolding M
-  bound-is em = em ∙ ap (bound (rounded true 32)) (letters-of-side true E 1 eh)
-
-  pub bound-fine : {m : Scaled} → Bounds E → m ≡ bound (rounded true 32) (step-letters (hi .letters)) → InRange 32 400 m
-  bound-fine f em = rw em (bound-in (in-range true) _ (side-letters-fine f))
-
-  tail-is : {m x : Scaled} → m ≡ bound (rounded true 32) (step-letters (hi .letters)) → x ≡ next-d (rounded true 32) m 0 (hi .terms .c) → x ≡ d E 1
+  tail-is : {m x : Scaled} → m ≡ M E → x ≡ next-d (rounded true 32) m 0 (hi .terms .c) → x ≡ d E 1
   unfolding d tail-term
-  tail-is em ex = rw (ex, bound-is em, start-is)
+  tail-is em ex = rw (ex, em, start-is)
 
 -- ---- the count of exact terms and the losses
 
@@ -115,13 +117,12 @@ either-are E a b e = (rw (e .0, a .1, b .1), rw (e .1, a .2, b .2) (sym (Bool·n
 
 pub opened-is : (E : Encounter) (o : OpenSides) {m x : Scaled} {n k : ℕ}
     → (o .lower ≡ side false E 1) × (o .upper ≡ side true E 1) × (o .losses .term ≡ either-lost E 0) × (o .losses .operand ≡ not (lossless E 1)) × (o .r256 ≡ r256 E)
-    → m ≡ bound (rounded true 32) (step-letters (o .upper .letters)) → x ≡ next-d (rounded true 32) m 0 (o .upper .terms .c)
+    → m ≡ M E → x ≡ next-d (rounded true 32) m 0 (o .upper .terms .c)
     → n ≡ cond (o .losses .term) 0 1 → k ≡ cond (o .losses .operand) 0 1
     → record { encounter = E; object = 0; time = 0; N = 1; lower = o .lower; upper = o .upper; r256 = o .r256; M = m; d = x; exact = n; lossless = k } ≡ state (no-object E) 1
 unfolding state
 opened-is E o {n = n} e em ex en ek =
-    let f = bound-is E (e .1) em in
     let g = tail-is E (e .1) em ex in
     let c : n ≡ exact-terms E 1 = rw (en, e .2, first-exact E) in
     let l = opposite (lossless E 1) ek (e .3) in
-    λ i. record { encounter = E; object = 0; time = 0; N = 1; lower = e .0 i; upper = e .1 i; r256 = e .4 i; M = f i; d = g i; exact = c i; lossless = l i }
+    λ i. record { encounter = E; object = 0; time = 0; N = 1; lower = e .0 i; upper = e .1 i; r256 = e .4 i; M = em i; d = g i; exact = c i; lossless = l i }

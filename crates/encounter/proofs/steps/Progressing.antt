@@ -13,8 +13,8 @@ use Rattle.exact.specs.Losses.{exact-terms}
 use Rattle.exact.specs.Steps.{LettersOf, TermsOf, next, next-d, terms, tail-term, side-letters, side-start, side-terms, M, d}
 use Rattle.exact.proofs.Accepted.{facts}
 use Rattle.exact.proofs.Ranges.{widen}
-use Rattle.exact.proofs.Growth.{terms-in, tail-in, bound-in, letters-in, start-in}
-use Rattle.exact.proofs.Exponents.{in-range}
+use Rattle.exact.proofs.Growth.{terms-in, tail-in, letters-in, start-in}
+use Rattle.exact.proofs.Exponents.{in-range, M-in}
 use Rattle.encounter.specs.declared.state.Terms.{Terms}
 use Rattle.encounter.specs.declared.state.Session.{Session}
 use Rattle.encounter.specs.declared.steps.counts.Counts.{Counts}
@@ -48,8 +48,7 @@ module _ (s : Session) (b : Begun s) where
   M-is = ap (λ (x : Session). x .M) (b .is)
 
   pub M-range : InRange 32 400 (M E)
-  unfolding M side-letters
-  M-range = bound-in (in-range true) _ (letters-in (in-range true) (facts (b .fine) .bounds))
+  M-range = M-in (facts (b .fine) .bounds)
 
   pub M-fine : InRange 32 400 (s .M)
   M-fine = rw M-is M-range
@@ -66,8 +65,8 @@ module _ (s : Session) (b : Begun s) where
         record { c = widen small (q .c); p = widen small (q .p); v = widen small (q .v); y = widen small (q .y); sum = widen small (q .sum) }
 
   pub d-range : (n : ℕ) → n ≤ largest-order → InRange 32 largest-exponent (d E n)
-  unfolding d side-start M side-letters
-  d-range n nl = widen (omega arith) (tail-in (in-range true) (start-in (in-range true) (facts (b .fine) .bounds)) (bound-in (in-range true) _ (letters-in (in-range true) (facts (b .fine) .bounds))) n nl)
+  unfolding d side-start
+  d-range n nl = widen (omega arith) (tail-in (in-range true) (start-in (in-range true) (facts (b .fine) .bounds)) M-range n nl)
 
 -- ---- both sides together, as the loop holds them
 

@@ -11,6 +11,7 @@ use crate::arithmetic::scaled::at_most;
 use crate::arithmetic::scaled::doubled;
 use crate::arithmetic::scaled::quotient;
 use crate::arithmetic::scaled::sum;
+use crate::calls::tests::passes_test_23;
 use crate::state::Class;
 use crate::state::Session;
 use exact::Scaled;
@@ -62,11 +63,10 @@ pub fn classify(lower: Scaled, upper: Scaled) -> Class
     }
 }
 
-// Whether 2M is at most N + 2.
+// Whether test 23 passes.
 pub fn may_read(s: Session) -> bool
     requires { ⌜ Begun s ⌝ }
     ensures { λ r. ⌜ r ≡ not (refuses-23 (s .encounter) (s .N)) ⌝ }
 {
-    let M = s.M;
-    at_most(doubled(M), Scaled::whole(s.N + 2))
+    passes_test_23(s.M, s.N)
 }

@@ -3,14 +3,12 @@ ghost use mathlib.Core.Path.{_≡_};
 ghost use mathlib.Core.Bool.{true, false, not};
 ghost use Rattle.exact.specs.Private.Ranges.{Bounds};
 ghost use Rattle.exact.specs.Refusals.{Accepted};
-ghost use Rattle.exact.specs.Steps.{exponential-sum, r256 as r256Of};
+ghost use Rattle.exact.specs.Steps.{exponential-sum, r256 as r256Of, M as boundOf};
 ghost use Rattle.exact.specs.Losses.{traced-letters, traced-terms, term-lost, operand-lost, either-lost, lossless};
 ghost use Rattle.encounter.specs.Session.{side, state, no-object};
 ghost use Rattle.encounter.specs.Private.Held.{way-letters};
 use crate::state::Session;
 use crate::state::Side;
-use crate::steps::letters::bound;
-use crate::steps::letters::letters;
 use crate::steps::letters::start;
 use crate::steps::losses::Losses;
 use crate::steps::losses::TracedLetters;
@@ -58,12 +56,11 @@ struct OpenSides {
     r256: Scaled,
 }
 
-// From the upper letters, which test 7 needed.
-fn open_sides(E: Encounter, above: TracedLetters) -> OpenSides
-    requires { ⌜ (Accepted E) × (way-letters above ≡ traced-letters true E) ⌝ }
+// From both sides' letters.
+fn open_sides(E: Encounter, below: TracedLetters, above: TracedLetters) -> OpenSides
+    requires { ⌜ (Accepted E) × (way-letters below ≡ traced-letters false E) × (way-letters above ≡ traced-letters true E) ⌝ }
     ensures { λ r. ⌜ (r .lower ≡ side false E 1) × (r .upper ≡ side true E 1) × (r .losses .term ≡ either-lost E 0) × (r .losses .operand ≡ not (lossless E 1)) × (r .r256 ≡ r256Of E) ⌝ }
 {
-    let below = letters(false, E);
     let sums = exponential_sums(below.t.number, above.t.number);
     let one = open_side(false, E, below, sums.lower);
     let other = open_side(true, E, above, sums.upper);
@@ -79,16 +76,16 @@ fn open_sides(E: Encounter, above: TracedLetters) -> OpenSides
     }
 }
 
-pub fn opened(E: Encounter, above: TracedLetters) -> Session
-    requires { ⌜ (Accepted E) × (way-letters above ≡ traced-letters true E) ⌝ }
+// From both sides' letters and M, which tests 7 and 11 needed.
+pub fn opened(E: Encounter, below: TracedLetters, above: TracedLetters, M: Scaled) -> Session
+    requires { ⌜ (Accepted E) × (way-letters below ≡ traced-letters false E) × (way-letters above ≡ traced-letters true E) × (M ≡ boundOf E) ⌝ }
     ensures { λ r. ⌜ r ≡ state (no-object E) 1 ⌝ }
 {
-    let sides = open_sides(E, above);
+    let sides = open_sides(E, below, above);
     let lower = sides.lower;
     let upper = sides.upper;
     let r256 = sides.r256;
     let lost = sides.losses;
-    let M = bound(upper.letters);
     let d = first_tail(M, upper.terms.c);
     let exact = none_lost(lost.term);
     let lossless = none_lost(lost.operand);

@@ -1,22 +1,23 @@
 use mathlib.Core.Path.{_≡_, refl, sym, _∙_, ap}
 use mathlib.Core.Bool.{Bool, true, not}
-use Prim.Native.Nat.{ℕ, _≤_}
+use Prim.Native.Nat.{ℕ, _+_, _≤_}
 use native.Mathlib.Omega.{arith}
-use Rattle.exact.specs.Fraction.{whole, at-most, above}
+use Rattle.exact.specs.Fraction.{whole, _⊗_, at-most, above}
 use Rattle.exact.specs.Scaled.{value}
 use Rattle.exact.specs.declared.Encounter.{Encounter}
-use Rattle.exact.specs.Numbers.{largest-t}
+use Rattle.exact.specs.Numbers.{largest-t, largest-order}
 use Rattle.exact.specs.declared.Scaled.{Scaled}
 use Rattle.exact.specs.declared.Traced.{Traced}
 use Rattle.exact.specs.Losses.{traced-letters}
-use Rattle.exact.specs.Steps.{LettersOf, side-letters}
-use Rattle.exact.specs.Refusals.{refuses-7}
+use Rattle.exact.specs.Steps.{LettersOf, side-letters, M}
+use Rattle.exact.specs.Refusals.{refuses-7, refuses-11}
 use Rattle.exact.specs.Private.Ranges.{tests-3-to-6}
+use Rattle.exact.proofs.Exponents.{M-in}
 use Rattle.exact.proofs.Losses.{letters-number}
 use Rattle.encounter.specs.declared.steps.losses.TracedLetters.{TracedLetters}
 use Rattle.encounter.specs.Private.Held.{way-letters}
-use Rattle.encounter.proofs.steps.Opening.{letters-fine}
-use Rattle.encounter.proofs.calls.Answering.{begin-early, begin-7, begin-taken, call-reached, passed-bounds, accepted}
+use Rattle.encounter.proofs.steps.Opening.{letters-fine, numbers-fine, bound-is}
+use Rattle.encounter.proofs.calls.Answering.{begin-early, begin-7, begin-11, begin-taken, call-reached, passed-bounds, accepted}
 use Rattle.encounter.specs.Calls.{begins}
 use borrow.Author.Needs.{needs}
 use Rattle.encounter.proofs.calls.begin.Statement.{statement}
@@ -26,12 +27,19 @@ use Rattle.encounter.proofs.calls.begin.Tie as tie
 upper-t : (E : Encounter) {l : TracedLetters} → way-letters l ≡ traced-letters true E → l .t .number ≡ side-letters true E .t
 upper-t E e = ap (λ (l : LettersOf Traced). l .t .number) e ∙ ap (λ (l : LettersOf Scaled). l .t) (letters-number true E)
 
--- test 7, as the code makes it
-test-7 : (E : Encounter) {l : TracedLetters} {r x : Bool} → way-letters l ≡ traced-letters true E → r ≡ at-most (value (l .t .number)) (whole largest-t) → r ≡ x → refuses-7 E ≡ not x
-unfolding refuses-7 above
-test-7 E {l} e g k =
-    let same : at-most (value (l .t .number)) (whole largest-t) ≡ at-most (value (side-letters true E .t)) (whole largest-t) = rw (upper-t E e) in
-    ap not (sym same ∙ sym g ∙ k)
+-- tests 7 and 11, as the code makes them
+module _ (E : Encounter) {r x : Bool} (k : r ≡ x) where
+  test-7 : {l : TracedLetters} → way-letters l ≡ traced-letters true E → r ≡ at-most (value (l .t .number)) (whole largest-t) → refuses-7 E ≡ not x
+  unfolding refuses-7 above
+  test-7 {l} e g =
+      let same : at-most (value (l .t .number)) (whole largest-t) ≡ at-most (value (side-letters true E .t)) (whole largest-t) = rw (upper-t E e) in
+      ap not (sym same ∙ sym g ∙ k)
+
+  test-11 : {m : Scaled} → m ≡ M E → r ≡ at-most (whole 2 ⊗ value m) (whole (largest-order + 2)) → refuses-11 E ≡ not x
+  unfolding refuses-11 above
+  test-11 {m} e g =
+      let same : at-most (whole 2 ⊗ value m) (whole (largest-order + 2)) ≡ at-most (whole 2 ⊗ value (M E)) (whole (largest-order + 2)) = rw e in
+      ap not (sym same ∙ sym g ∙ k)
 
 passes : (E : Encounter) {r : ℕ} → r ≡ tests-3-to-6 E 0 → r ≤ 0 → tests-3-to-6 E 0 ≡ 0
 passes E e l = sym e ∙ omega arith
@@ -49,21 +57,46 @@ returns c =
     (e, call-reached (begins (z .args .E)) (z .pre) e)
 
 letters-requires : tie.Need-letters-requires
-letters-requires c κs = let z = c .before .before in passed-bounds (z .args .E) (z .args .s) (passes (z .args .E) (c .before .test-inputs .ensures) (c .if1 .left))
+letters-requires c κs = let z = c .before .before in passed-bounds (z .args .E) (passes (z .args .E) (c .before .test-inputs .ensures) (c .if1 .left))
 
 passes-test-7-requires : tie.Need-passes-test-7-requires
 passes-test-7-requires c κs =
-    let z = c .before .before .before in
-    let E = z .args .E in
-    letters-fine true E (passed-bounds E (z .args .s) (passes E (c .before .before .test-inputs .ensures) (c .before .if1 .left))) (c .letters .ensures) .t
+    let E = c .before .before .before .args .E in
+    letters-fine true E (passed-bounds E (passes E (c .before .before .test-inputs .ensures) (c .before .if1 .left))) (c .letters .ensures) .t
+
+letters-requires-2 : tie.Need-letters-requires-2
+letters-requires-2 c κs =
+    let l = c .before .before in
+    let E = l .before .before .before .args .E in
+    passed-bounds E (passes E (l .before .before .test-inputs .ensures) (l .before .if1 .left))
+
+letter-numbers-requires : tie.Need-letter-numbers-requires
+letter-numbers-requires c κs = search needs
+
+bound-requires : tie.Need-bound-requires
+bound-requires c κs =
+    let l = c .before .before .before .before in
+    let E = l .before .before .before .args .E in
+    numbers-fine E (l .letters .ensures) (c .letter-numbers .ensures) (passed-bounds E (passes E (l .before .before .test-inputs .ensures) (l .before .if1 .left)))
+
+passes-test-11-requires : tie.Need-passes-test-11-requires
+passes-test-11-requires c κs =
+    let n = c .before in
+    let l = n .before .before .before .before in
+    let E = l .before .before .before .args .E in
+    rw (bound-is E (l .letters .ensures) (n .letter-numbers .ensures) (c .bound .ensures)) (M-in (passed-bounds E (passes E (l .before .before .test-inputs .ensures) (l .before .if1 .left))))
 
 opened-requires : tie.Need-opened-requires
 opened-requires c κs =
-    let z = c .before .before .before .before .before in
-    let E = z .args .E in
-    let l = c .before .before .letters in
-    let p = passes E (c .before .before .before .before .test-inputs .ensures) (c .before .before .before .if1 .left) in
-    (accepted E (z .args .s) p (test-7 E (l .ensures) (c .before .passes-test-7 .ensures) (c .if2 .taken)), l .ensures)
+    let m = c .before .before in
+    let n = m .before in
+    let k = n .before .before in
+    let l = k .before .before in
+    let E = l .before .before .before .args .E in
+    let p = passes E (l .before .before .test-inputs .ensures) (l .before .if1 .left) in
+    let t = test-7 E (k .if2 .taken) (l .letters .ensures) (k .before .passes-test-7 .ensures) in
+    let e = bound-is E (l .letters .ensures) (n .letter-numbers .ensures) (m .bound .ensures) in
+    (accepted E p t (test-11 E (c .if3 .taken) e (c .before .passes-test-11 .ensures)), n .before .letters2 .ensures, l .letters .ensures, e)
 
 count-to-requires : tie.Need-count-to-requires
 count-to-requires c κs = search needs
@@ -71,22 +104,48 @@ count-to-requires c κs = search needs
 refused-on-requires-2 : tie.Need-refused-on-requires-2
 refused-on-requires-2 c κs = search needs
 
+refused-on-requires-3 : tie.Need-refused-on-requires-3
+refused-on-requires-3 c κs = search needs
+
 returns-2 : tie.Need-returns-2
 returns-2 c =
-    let z = c .before .before .before .before .before .before .before in
+    let o = c .before .before in
+    let m = o .before .before in
+    let n = m .before in
+    let k = n .before .before in
+    let l = k .before .before in
+    let z = l .before .before .before in
     let E = z .args .E in
-    let p = passes E (c .before .before .before .before .before .before .test-inputs .ensures) (c .before .before .before .before .before .if1 .left) in
-    let t = test-7 E (c .before .before .before .before .letters .ensures) (c .before .before .before .passes-test-7 .ensures) (c .before .before .if2 .taken) in
-    let e = begin-taken E (z .args .s) p t (c .count-to .ensures) (c .before .opened .ensures) in
+    let p = passes E (l .before .before .test-inputs .ensures) (l .before .if1 .left) in
+    let t = test-7 E (k .if2 .taken) (l .letters .ensures) (k .before .passes-test-7 .ensures) in
+    let b = test-11 E (o .if3 .taken) (bound-is E (l .letters .ensures) (n .letter-numbers .ensures) (m .bound .ensures)) (o .before .passes-test-11 .ensures) in
+    let e = begin-taken E (z .args .s) p t b (c .count-to .ensures) (c .before .opened .ensures) in
     (e, call-reached (begins E) (z .pre) e)
 
 returns-3 : tie.Need-returns-3
 returns-3 c =
-    let z = c .before .before .before .before .before .before in
+    let o = c .before in
+    let m = o .before .before in
+    let n = m .before in
+    let k = n .before .before in
+    let l = k .before .before in
+    let z = l .before .before .before in
     let E = z .args .E in
-    let p = passes E (c .before .before .before .before .before .test-inputs .ensures) (c .before .before .before .before .if1 .left) in
-    let t = test-7 E (c .before .before .before .letters .ensures) (c .before .before .passes-test-7 .ensures) (c .before .if2 .left) in
-    let e = c .refused-on2 .ensures ∙ begin-7 E (z .args .s) p t refl in
+    let p = passes E (l .before .before .test-inputs .ensures) (l .before .if1 .left) in
+    let t = test-7 E (k .if2 .taken) (l .letters .ensures) (k .before .passes-test-7 .ensures) in
+    let b = test-11 E (o .if3 .left) (bound-is E (l .letters .ensures) (n .letter-numbers .ensures) (m .bound .ensures)) (o .before .passes-test-11 .ensures) in
+    let e = c .refused-on2 .ensures ∙ begin-11 E (z .args .s) p t b refl in
+    (e, call-reached (begins E) (z .pre) e)
+
+returns-4 : tie.Need-returns-4
+returns-4 c =
+    let k = c .before in
+    let l = k .before .before in
+    let z = l .before .before .before in
+    let E = z .args .E in
+    let p = passes E (l .before .before .test-inputs .ensures) (l .before .if1 .left) in
+    let t = test-7 E (k .if2 .left) (l .letters .ensures) (k .before .passes-test-7 .ensures) in
+    let e = c .refused-on3 .ensures ∙ begin-7 E (z .args .s) p t refl in
     (e, call-reached (begins E) (z .pre) e)
 
 pub begin-spec : {M : Type 1} → statement M
@@ -98,8 +157,14 @@ begin-spec =
     returns
     letters-requires
     passes-test-7-requires
+    letters-requires-2
+    letter-numbers-requires
+    bound-requires
+    passes-test-11-requires
     opened-requires
     count-to-requires
     refused-on-requires-2
+    refused-on-requires-3
     returns-2
-    returns-3)
+    returns-3
+    returns-4)
