@@ -5,8 +5,8 @@
 
 The program is target/bench/bench, built by bench/run; all its contenders are compared where none is named. Encounters
 are drawn over all sizes: zero misses, equal sigmas, t close to 64, the extremes, every refusal, adds in pieces, and
-orders to 4,096; before them four that have an end next to 1/10,000, and some with exact terms. Exits with 1 where an
-answer differs.
+orders to 1,024; before them the begins of tests/edges.py, among them those with 2M at 1,026 and next to it, four
+encounters that have an end next to 1/10,000, and some with exact terms. Exits with 1 where an answer differs.
 """
 
 import argparse
@@ -20,8 +20,8 @@ import sys
 ROOT = pathlib.Path(__file__).resolve().parent.parent
 sys.dont_write_bytecode = True
 sys.path.insert(0, str(ROOT / "tests"))
-from edges import EXACT_TERMS
-from encounters import AT_THRESHOLD
+from edges import ANSWERS, BEGINS, EXACT_TERMS, conjunctions
+from encounters import AT_THRESHOLD, LATEST
 from fields import ANSWER, answer_numbers
 from reference import LARGEST, LARGEST_N, LARGEST_T, Session
 
@@ -114,6 +114,18 @@ def calls_of(rng, long):
     return calls
 
 
+def first_calls():
+    """The calls for the encounters of tests/."""
+    calls = [call for _, inputs in BEGINS for call in (("begin", *inputs), ("read",))]
+    calls += [call for _, inputs in conjunctions() for call in (("begin_conjunction", *inputs), ("read",))]
+    calls += [call for inputs, *_ in AT_THRESHOLD for call in (("begin", *inputs), ("read",))]
+    calls += [call for inputs, N, *_ in EXACT_TERMS for call in (("begin", *inputs), ("add", N - 1), ("read",))]
+    # This one is read at the largest order alone.
+    calls += [("begin", *LATEST), ("add", LARGEST_N), ("add", LARGEST_N - 2), ("read",)]
+    calls += [("add", 1), ("read",), ("add", 1)]
+    return calls
+
+
 def answers(calls):
     """The reference's answers."""
     session = Session()
@@ -158,15 +170,16 @@ def main():
     parser.add_argument("--seed", type=int, default=SEED)
     given = parser.parse_args()
     rng = random.Random(given.seed)
-    calls = [call for inputs, *_ in AT_THRESHOLD for call in (("begin", *inputs), ("read",))]
-    calls += [call for inputs, N, *_ in EXACT_TERMS for call in (("begin", *inputs), ("add", N - 1), ("read",))]
+    calls = first_calls()
     calls += [call for i in range(given.count) for call in calls_of(rng, i % LONG == 0)]
     due = list(answers(calls))
     reads = sum(call[0] == "read" and a[0] == 0 for call, a in zip(calls, due))
     refusals = collections.Counter(a[0] for a in due if a[0])
     counts = ", ".join(f"{n} of {r}" for r, n in sorted(refusals.items()))
-    encounters = len(AT_THRESHOLD) + len(EXACT_TERMS) + given.count
-    print(f"{encounters} encounters, {len(calls)} calls, {reads} reads; refusals: {counts}")
+    if set(refusals) != {answer for _, answer in ANSWERS if answer}:
+        sys.exit(f"check: only these refusals: {counts}")
+    begins = sum(call[0].startswith("begin") for call in calls)
+    print(f"{begins} begins, {len(calls)} calls, {reads} reads; refusals: {counts}")
     names = [given.contender] if given.contender else output([given.bench, "--names"])
     failures = 0
     for name in names:

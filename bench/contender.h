@@ -3,6 +3,7 @@
 #define CONTENDER_H
 
 #include "jinthuol.h"
+#include "limits.h"
 #include <stdint.h>
 
 /* A case: an encounter, and the order to which its terms are added. */

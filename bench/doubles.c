@@ -135,7 +135,7 @@ static const double SMALL = 0x1p-256, LARGE = 0x1p128;
 /* Stands for a number below 2^-100 that is added to one above 2^-50: all that counts is that it is not zero. */
 static const pair TINY = {0x1p-200, -0x1p-200};
 
-/* The session at order 1, or 7 where test 7 refuses. */
+/* The session at order 1, or the number of the test that refuses, 7 or 11. */
 static __attribute__((noinline)) uint32_t open_session(plain_session *s, jinthuol_encounter E)
 {
     int64_t R = E.R, sx = E.sx, sy = E.sy, xm = E.xm, ym = E.ym;
@@ -146,10 +146,12 @@ static __attribute__((noinline)) uint32_t open_session(plain_session *s, jinthuo
         return 7;
     pair b = ratio(R * R, 2 * sx * sx);
     pair g = ratio(sx * sx - sy * sy, sx * sx);
-    pair c = ratio(R * R, 2 * sx * sy);
     pair h = product(u, factor(g)), X = product(zx, factor(b)), Y = product(zy, factor(u));
-    pair p = product(c, factor(u));
     pair M = sum(sum(sum(u, h * both(0.5)), X), Y);
+    if (2 * M[1] < -(LARGEST_ORDER + 2))
+        return 11;
+    pair c = ratio(R * R, 2 * sx * sy);
+    pair p = product(c, factor(u));
     pair d = product(c, factor(M)) * both(0.5);
     s->encounter = E;
     s->object = s->time = 0;
@@ -239,7 +241,7 @@ plain_answer doubles_add(plain_session *s, uint16_t count)
     if (s->N == 0)
         return refuse(21);
     uint32_t N = s->N + count;
-    if (N > 4096)
+    if (N > LARGEST_ORDER)
         return refuse(22);
     direction before = downward();
     advance(s, N);

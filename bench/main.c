@@ -18,12 +18,12 @@
 #include <time.h>
 
 /* Inputs in centimetres: Test 1 and Alfano 3 from document 01, "Encounters on each edge"; Chan 1 from document 000,
-   Table 3, as in examples/chan-1.md; the last is document 01's encounter with t = 64, at the largest order. */
+   Table 3, as in examples/chan-1.md; the last has t = 64 and M = 512.1, next to the limits of tests 7 and 11. */
 static const struct measured CASES[] = {
     {"Test 1", {500, 5000, 100, 1000, 0}, 101},
-    {"Alfano 3", {1500, 11425, 141, 15, -388}, 1597},
+    {"Alfano 3", {1500, 11425, 141, 15, -388}, LARGEST_ORDER},
     {"Chan 1", {500, 5000, 2500, 1000, 0}, 49},
-    {"t = 64", {8, 1, 1, 8, 0}, 4096},
+    {"t = 64", {152, 28, 19, 224, 0}, LARGEST_ORDER},
 };
 
 static const struct contender *const CONTENDERS[] = {

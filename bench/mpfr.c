@@ -67,15 +67,36 @@ static void first_letters(steps_side *s, jinthuol_encounter E, mpfr_rnd_t way)
     mpfr_add(s->t, a, s->u, way);
 }
 
-/* The rest of a side at order 1, and r(255) in r. */
-static void open_side(steps_side *s, jinthuol_encounter E, mpfr_rnd_t way)
+/* h, X and Y, after these. */
+static void other_letters(steps_side *s, jinthuol_encounter E, mpfr_rnd_t way)
 {
     ratio(b, square(E.R), 2 * square(E.sx), way);
     ratio(g, square(E.sx) - square(E.sy), square(E.sx), way);
-    ratio(s->c, square(E.R), 2 * (uint64_t)E.sx * E.sy, way);
     mpfr_mul(s->h, s->u, g, way);
     mpfr_mul(s->X, zx, b, way);
     mpfr_mul(s->Y, zy, s->u, way);
+}
+
+/* M of the upper side. */
+static void form_M(mpfr_t M, const steps_side *upper)
+{
+    mpfr_div_2ui(a, upper->h, 1, MPFR_RNDU);
+    mpfr_add(a, upper->u, a, MPFR_RNDU);
+    mpfr_add(a, a, upper->X, MPFR_RNDU);
+    mpfr_add(M, a, upper->Y, MPFR_RNDU);
+}
+
+/* Test 23 at order N: whether 2M is above N + 2. At the largest order it is test 11. */
+static int refuses_23(const mpfr_t M, uint32_t N)
+{
+    mpfr_mul_2ui(a, M, 1, MPFR_RNDU);
+    return mpfr_cmp_ui(a, N + 2) > 0;
+}
+
+/* The rest of a side at order 1, and r(255) in r. */
+static void open_side(steps_side *s, jinthuol_encounter E, mpfr_rnd_t way)
+{
+    ratio(s->c, square(E.R), 2 * (uint64_t)E.sx * E.sy, way);
     mpfr_mul(s->p, s->u, s->c, way);
     mpfr_set(s->v, s->c, way);
     mpfr_set(s->y, s->c, way);
@@ -111,7 +132,7 @@ static int far(int32_t z)
     return z < -10000000 || z > 10000000;
 }
 
-/* The upper t is formed in a session of its own: a refused begin changes nothing. */
+/* The upper letters and M are formed in a session of its own: a refused begin changes nothing. */
 static steps_session tried;
 
 steps_answer steps_begin(steps_session *s, jinthuol_encounter E)
@@ -129,18 +150,19 @@ steps_answer steps_begin(steps_session *s, jinthuol_encounter E)
     first_letters(&tried.upper, E, MPFR_RNDU);
     if (mpfr_cmp_ui(tried.upper.t, 64) > 0)
         return refuse(7);
-    mpfr_set(s->upper.u, tried.upper.u, MPFR_RNDU);
-    mpfr_set(s->upper.t, tried.upper.t, MPFR_RNDU);
+    other_letters(&tried.upper, E, MPFR_RNDU);
+    form_M(tried.M, &tried.upper);
+    if (refuses_23(tried.M, LARGEST_ORDER))
+        return refuse(11);
+#define TAKE(x) mpfr_set(s->x, tried.x, MPFR_RNDU);
+    TAKE(upper.u) TAKE(upper.h) TAKE(upper.X) TAKE(upper.Y) TAKE(upper.t) TAKE(M)
     open_side(&s->upper, E, MPFR_RNDU);
     mpfr_mul(a, r, s->upper.t, MPFR_RNDU);
     mpfr_div_ui(s->r256, a, 256, MPFR_RNDU);
-    mpfr_div_2ui(a, s->upper.h, 1, MPFR_RNDU);
-    mpfr_add(a, s->upper.u, a, MPFR_RNDU);
-    mpfr_add(a, a, s->upper.X, MPFR_RNDU);
-    mpfr_add(s->M, a, s->upper.Y, MPFR_RNDU);
     mpfr_set(s->d, s->upper.c, MPFR_RNDU);
     next_tail(s, 2);
     first_letters(&s->lower, E, MPFR_RNDD);
+    other_letters(&s->lower, E, MPFR_RNDD);
     open_side(&s->lower, E, MPFR_RNDD);
     s->encounter = E;
     s->object = s->time = 0;
@@ -174,7 +196,7 @@ steps_answer steps_add(steps_session *s, uint16_t count)
 {
     if (s->N == 0)
         return refuse(21);
-    if (s->N + count > 4096)
+    if (s->N + count > LARGEST_ORDER)
         return refuse(22);
     for (uint32_t n = s->N; n < s->N + count; n++) {
         next_terms(&s->lower, n, MPFR_RNDD);
@@ -189,8 +211,7 @@ steps_answer steps_read(steps_session *s)
 {
     if (s->N == 0)
         return refuse(21);
-    mpfr_mul_2ui(a, s->M, 1, MPFR_RNDU);
-    if (mpfr_cmp_ui(a, s->N + 2) > 0)
+    if (refuses_23(s->M, s->N))
         return refuse(23);
     mpfr_mul_2ui(a, s->r256, 1, MPFR_RNDU);
     mpfr_add(a, s->upper.exponential, a, MPFR_RNDU);

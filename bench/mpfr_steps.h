@@ -3,6 +3,7 @@
 #define MPFR_STEPS_H
 
 #include "jinthuol.h"
+#include "limits.h"
 #include <stdint.h>
 #define MPFR_USE_INTMAX_T
 #include <mpfr.h>

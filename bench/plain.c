@@ -101,7 +101,7 @@ INLINE i64 length(u64 k)
     return 64 - __builtin_clzll(k);
 }
 
-/* For k from 2 to 4,097: the word is off by less than 2^13. */
+/* For k from 2 to 4,097, which is above LARGEST_ORDER + 1: the word is off by less than 2^13. */
 INLINE reciprocal of_short(u64 k)
 {
     i64 s = length(k - 1);
@@ -360,7 +360,7 @@ plain_answer plain_begin(plain_session *s, jinthuol_encounter E)
     if (first)
         return refuse(first);
     u64 RR = (u64)E.R * E.R, xx = (u64)E.sx * E.sx, yy = (u64)E.sy * E.sy;
-    plain_scaled zx[2], zy[2], u[2], b[2], g[2], c[2];
+    plain_scaled zx[2], zy[2], u[2], b[2], g[2], h[2], X[2], Y[2], c[2];
     ratio(RR, 2 * yy, &u[0], &u[1]);
     ratio((u64)((i64)E.xm * E.xm), 2 * xx, &zx[0], &zx[1]);
     ratio((u64)((i64)E.ym * E.ym), 2 * yy, &zy[0], &zy[1]);
@@ -369,21 +369,28 @@ plain_answer plain_begin(plain_session *s, jinthuol_encounter E)
         return refuse(7);
     ratio(RR, 2 * xx, &b[0], &b[1]);
     ratio(xx - yy, xx, &g[0], &g[1]);
+    for (int up = 0; up < 2; up++) {
+        h[up] = product(up, u[up], g[up]);
+        X[up] = product(up, zx[up], b[up]);
+        Y[up] = product(up, zy[up], u[up]);
+    }
+    plain_scaled M = sum(1, sum(1, sum(1, u[1], halved(h[1])), X[1]), Y[1]);
+    if (plain_refuses_23(M, LARGEST_ORDER))
+        return refuse(11);
     ratio(RR, 2 * (u64)E.sx * E.sy, &c[0], &c[1]);
-    *s = (plain_session){.encounter = E, .N = 1};
+    *s = (plain_session){.encounter = E, .N = 1, .M = M};
     for (int up = 0; up < 2; up++) {
         plain_side *side = up ? &s->upper : &s->lower;
         side->u = u[up];
-        side->h = product(up, u[up], g[up]);
-        side->X = product(up, zx[up], b[up]);
-        side->Y = product(up, zy[up], u[up]);
+        side->h = h[up];
+        side->X = X[up];
+        side->Y = Y[up];
         side->t = up ? T : sum(0, sum(0, zx[0], zy[0]), u[0]);
         side->p = product(up, u[up], c[up]);
         side->c = side->v = side->y = side->sum = c[up];
     }
     plain_exponentials(s);
-    s->M = sum(1, sum(1, sum(1, u[1], halved(s->upper.h)), s->upper.X), s->upper.Y);
-    s->d = halved(product(1, c[1], s->M));
+    s->d = halved(product(1, c[1], M));
     return (plain_answer){.N = 1};
 }
 
@@ -392,7 +399,7 @@ plain_answer plain_add(plain_session *s, uint16_t count)
     if (s->N == 0)
         return refuse(21);
     uint32_t N = s->N + count;
-    if (N > 4096)
+    if (N > LARGEST_ORDER)
         return refuse(22);
     while (s->N < N) {
         advance_both(s, N);
@@ -406,8 +413,7 @@ plain_answer plain_read(const plain_session *s)
 {
     if (s->N == 0)
         return refuse(21);
-    int shift = __builtin_clz(s->N + 2);
-    if (!at_most(s->M, (plain_scaled){(s->N + 2) << shift, -shift - 1}))
+    if (plain_refuses_23(s->M, s->N))
         return refuse(23);
     plain_scaled lower = quotient(0, s->lower.sum, added(1, s->upper.exponential, doubled(s->r256)));
     plain_scaled upper = quotient(1, added(1, s->upper.sum, doubled(s->d)), s->lower.exponential);

@@ -5,6 +5,7 @@
 #define PLAIN_H
 
 #include "jinthuol.h"
+#include "limits.h"
 #include <stdint.h>
 
 /* A scaled number m × 2^e. */
@@ -53,6 +54,13 @@ static inline uint32_t plain_tests(jinthuol_encounter E)
     if (E.sy > E.sx)
         return 5;
     return (uint32_t)E.xm + most > 2 * most || (uint32_t)E.ym + most > 2 * most ? 6 : 0;
+}
+
+/* Test 23 at order N: whether 2M is above N + 2. At the largest order it is test 11. */
+static inline int plain_refuses_23(plain_scaled M, uint32_t N)
+{
+    int shift = __builtin_clz(N + 2), e = -shift - 1;
+    return M.e > e || (M.e == e && M.m > (N + 2) << shift);
 }
 
 /* Both exponential sums and the upper r(256), from the session's two t. */

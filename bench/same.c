@@ -142,7 +142,7 @@ plain_answer same_add(plain_session *s, uint16_t count)
     if (s->N == 0)
         return (plain_answer){.refusal = 21};
     uint32_t N = s->N + count;
-    if (4096 < N)
+    if (LARGEST_ORDER < N)
         return (plain_answer){.refusal = 22};
     plain_side *a = &s->lower, *b = &s->upper;
     pair u = pair_of(a->u, b->u), h = pair_of(a->h, b->h), X = pair_of(a->X, b->X), Y = pair_of(a->Y, b->Y);
@@ -224,6 +224,9 @@ plain_answer same_begin(plain_session *s, jinthuol_encounter E)
     if (above.t.m != 0 && (above.t.e > -25 || (above.t.e == -25 && above.t.m > 0x80000000u)))
         return (plain_answer){.refusal = 7};
     letters below = letters_of(false, E);
+    wide M = sum(true, sum(true, sum(true, above.u, halved(above.h)), above.X), above.Y);
+    if (plain_refuses_23(narrowed(M), LARGEST_ORDER))
+        return (plain_answer){.refusal = 11};
     uint64_t RR = square(E.R), xy = 2 * (uint64_t)E.sx * E.sy;
     wide small = ratio(false, RR, xy), large = ratio(true, RR, xy);
     wide one = {0x80000000u, -31};
@@ -233,7 +236,6 @@ plain_answer same_begin(plain_session *s, jinthuol_encounter E)
         total = sums(total, r);
     }
     pair last = overs(products(r, t), 256);
-    wide M = sum(true, sum(true, sum(true, above.u, halved(above.h)), above.X), above.Y);
     put_side(&s->lower, below, small, product(false, below.u, small), total.lower);
     put_side(&s->upper, above, large, product(true, above.u, large), total.upper);
     s->encounter = E;

@@ -1,5 +1,5 @@
 /* begin and add of the proved library in C, in the same shape: what that shape takes without Rattle. empty, read and tests 3
-   to 6 are plain.h's. */
+   to 6, 11 and 23 are plain.h's. */
 #ifndef SAME_H
 #define SAME_H
 

@@ -78,11 +78,17 @@ ROUNDED_B = 131071, 131072, 131071, 0, 0
 # Of no document: three solutions of one encounter.
 SOLUTIONS = (1000, 30000, 15000, 20000, 28000), (1000, 30000, 15000, 20000, 40000), (1000, 30000, 15000, -24000, 36000)
 
+# Of no document: a sphere of 160 m around a station. 2M is 1,026 in the first and above it in the second; the third is the
+# second with a sphere of 140 m.
+AT_TEST_11 = 16000, 2000, 2000, 8000, 7500
+ABOVE_TEST_11 = 16000, 1900, 1900, 8000, 7500
+SMALLER_SPHERE = 14000, 1900, 1900, 8000, 7500
+
 SCRIPTS = {
     "test-1": begin(*TEST_1) + reads_at(35, 36, 55, 101),
     "chan-1": begin(*CHAN_1) + reads_at(1, 5, 49),
     "chan-5": begin(*CHAN_5) + reads_at(1, 3, 49),
-    "alfano-3": begin(*ALFANO_3) + reads_at(596, 597, 765, 1627),
+    "alfano-3": begin(*ALFANO_3) + reads_at(596, 597, 765, 1024),
     "alfano-5": begin(*ALFANO_5) + read(),
     "document-01": begin(*FULL) + read() + add(4096) + b"\x09",
     "growing-order": begin(*HALF)
@@ -146,6 +152,13 @@ SCRIPTS = {
     + reads_at(13)
     + begin(*ALFANO_3)
     + reads_at(597, 911),
+    "largest-order": begin_conjunction(AT_TEST_11, 40115, 120)
+    + reads_at(1023, 1024)
+    + add(1)
+    + begin_conjunction(ABOVE_TEST_11, 40116, 131)
+    + read()
+    + begin_conjunction(SMALLER_SPHERE, 40116, 131)
+    + reads_at(957, 1024),
     "equal-weights": b"".join(begin_conjunction(solution, 31140, 1015) + reads_at(13) for solution in SOLUTIONS),
 }
 

@@ -63,6 +63,8 @@ def cases(rng):
     """The five inputs and an order for each, or 0 for the advised one; then an object number and a time, or not."""
     for case in inputs_and_orders(rng):
         yield rng.choice((case, (*case, *drawn.object_and_time(rng))))
+    for _, encounter in edges.BEGINS:
+        yield *encounter, 3
     for _, (*encounter, number, time) in edges.conjunctions():
         yield *encounter, 3, number, time
 
@@ -89,13 +91,13 @@ def inputs_and_orders(rng):
 
 
 def chosen(rng, encounter, most):
-    """The least order that is read and one beside it, where they are below most; else any. Some are too large, or 0."""
+    """The least order that is read and one beside it, unless it is above most; else any. Some are too large, or 0."""
     if rng.random() < 0.05:
         yield 0
     if rng.random() < 0.02:
         yield rng.choice((LARGEST_N, LARGEST_N + 1, MOST_COUNT + 1))
     least = orders.least(encounter) if orders.begun(encounter) else 0
-    if 1 <= least <= most - 1:
+    if 1 <= least <= most:
         yield least
         yield max(1, least + rng.choice((-1, 1)))
     else:

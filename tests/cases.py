@@ -5,8 +5,9 @@
 
 For each encounter: the least order N at which a read is accepted, or the refusal that is due; at that
 order and at two later ones the exact quotients are between the two ends, and the class is that of the ends.
-Then encounters with an end next to 1/10,000, document 01's "Encounters on each edge", the count of exact terms of these
-and of drawn encounters, and reads at the advised order and at later ones. Exits with 1 where anything differs.
+Then encounters with an end next to 1/10,000, document 01's "Encounters on each edge", those on both sides of test 11,
+the count of exact terms of these and of drawn encounters, and reads at the advised order and at later ones. Exits with 1
+where anything differs.
 """
 
 import random
@@ -23,10 +24,10 @@ import orders
 from advice import LARGEST_M
 from brackets import as_float
 from checks import Checks
-from encounters import AT_THRESHOLD, DOCUMENTS, EDGES, FULL, HALF, IN_CENTIMETRES
+from encounters import AT_64, AT_THRESHOLD, DOCUMENTS, EDGES, FULL, HALF, IN_CENTIMETRES, LATEST
 from exact_series import Encounter
 from orders import at_order
-from reference import LARGEST_N, LARGEST_T, THRESHOLD_FACTOR, Answer, Session
+from reference import LARGEST_N, THRESHOLD_FACTOR, Answer, M_of, Session, first
 from rounded import DOWN, UP, ZERO
 from scaled import LEAST
 
@@ -43,15 +44,13 @@ def edge(ok, what):
 def readings(name, encounter):
     """The reads at the least order that is read, at the least one where the tail bound is small, and at the last one.
 
-    Each with whether the tail bound is small there. None where no order is read.
+    Each with whether the tail bound is small there.
     """
     least = orders.least(encounter)
     # M is rounded up: where 2M is just below a whole number, that may give the next order.
     edge(least - orders.exact_least(encounter) in (0, 1), f"{name}: the least order is {least}")
     if least > 1:
-        edge(at_order(encounter, min(least - 1, LARGEST_N)).read() == Answer(23), f"{name}: read below {least}")
-    if least > LARGEST_N:
-        return []
+        edge(at_order(encounter, least - 1).read() == Answer(23), f"{name}: read below {least}")
     session = at_order(encounter, least)
     answers = [(session.read(), brackets.is_close(session))]
     while not brackets.is_close(session) and session.N < LARGEST_N:
@@ -66,14 +65,11 @@ def tabulate(name, encounter):
     """Checks one case; the table's row."""
     row = f"{name:9}" + "".join(f"{x:>10}" for x in encounter)
     begun = Session().begin(*encounter)
-    # In none of these cases is t so near 64 that its rounding decides.
-    due = 7 if exact_series.letters(encounter).t > LARGEST_T else 0
-    edge(begun.refusal == due, f"{name}: {begun}")
+    # In none of these cases does the rounding of t or of M decide.
+    edge(begun.refusal == orders.exact_refusal(encounter), f"{name}: {begun}")
     if begun.refusal:
         return f"{row}   refused {begun.refusal}"
     answers = readings(name, encounter)
-    if not answers:
-        return f"{row}   refused 23 at {LARGEST_N}"
     for answer, close in answers:
         edge(answer.refusal == 0 and brackets.has_its_class(answer), f"{name}: {answer}")
         if close:
@@ -128,17 +124,31 @@ def on_edges():
     edge(exact_series.by_definition(HALF, 3)[2] == Fraction(1, 48), "(10, 10, 10, 0, 0): exact c(2)")
     edge(session.tail_bound() == quarter and session.read().refusal == 0, "(10, 10, 10, 0, 0) at N = 1")
 
-    session = at_order(FULL, 1)
-    for side in (session.lower, session.upper):
-        edge(side.t == DOWN.ratio(64, 1), "(8, 1, 1, 8, 0): t = 64")
-    edge(session.M == DOWN.ratio(1056, 1), "(8, 1, 1, 8, 0): M = 1,056")
+    lower, upper = (first(r, *FULL) for r in (DOWN, UP))
+    edge(lower.t == upper.t == DOWN.ratio(64, 1), "(8, 1, 1, 8, 0): t = 64")
+    edge(M_of(upper) == DOWN.ratio(1056, 1), "(8, 1, 1, 8, 0): M = 1,056")
     for name, encounter, N in edges.LEAST_ORDERS:
         edge(orders.least(encounter) == N, f"{name}: the least order")
         edge(at_order(encounter, N - 1).read() == Answer(23), f"{name} at {N - 1}")
         edge(at_order(encounter, N).read().refusal == 0, f"{name} at {N}")
-    for N in (1, 2109, 2110, LARGEST_N):
-        edge(at_order(FULL, N).read() == at_order(FULL._replace(xm=-8), N).read(), f"xm = -8 at {N}")
+    for N in (1, LARGEST_N - 1, LARGEST_N):
+        edge(at_order(LATEST, N).read() == at_order(LATEST._replace(xm=-36), N).read(), f"xm = -36 at {N}")
     edge(at_order(HALF, LARGEST_N).N == LARGEST_N, "N = 1, and an add to the largest order")
+
+
+def at_largest_order():
+    """Request #109: "Encounters that could then never be read should be stopped at the start", and no others."""
+    rng = random.Random(options.SEED)
+    tried = [inputs for inputs, *_ in edges.AT_TEST_11] + [AT_64, FULL]
+    tried += [inputs for _ in range(20) for inputs in drawn.beside_largest_M(rng)]
+    for inputs in tried:
+        M = Fraction(*exact_series.scaled_pair(M_of(first(UP, *inputs))))
+        due = 11 if orders.least_for(M) > LARGEST_N else 0
+        found = Session().begin(*inputs).refusal
+        checks.check(found == due, "largest orders", f"begin {inputs}: {found}, due {due}")
+        if not found:
+            answer = at_order(inputs, LARGEST_N).read()
+            checks.check(answer.N == LARGEST_N, "largest orders", f"{inputs} at {LARGEST_N}: {answer}")
 
 
 # The orders of the drawn encounters: no term is known to be exact after the fifth.
@@ -195,6 +205,7 @@ def main():
     table()
     at_threshold()
     on_edges()
+    at_largest_order()
     exact_terms()
     advised()
     checks.end()

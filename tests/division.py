@@ -11,6 +11,7 @@ from typing import NamedTuple
 import drawn
 import edges
 import scaled
+from reference import LARGEST_N
 from scaled import LEAST, LIMIT, ZERO, Scaled
 
 LOWEST = -1_000_000_000
@@ -49,7 +50,8 @@ EXPONENTS = (
     *(edges.LOW, edges.LOW + 1, edges.LOW + 32, -(1 << 30) - 1, -(1 << 30), -(1 << 28), -1074, -35, -32, -31, -1),
     *(0, 1, 31, 992, 1 << 28, (1 << 30) - 1, 1 << 30, edges.HIGH - 32, edges.HIGH - 1, edges.HIGH),
 )
-DIVISORS = (0, 1, 2, 3, 4, 5, 7, 10, 4096 * 4097, (1 << 25) + 1, *(LEAST + i for i in (-1, 0, 1)), LIMIT - 2, LIMIT - 1)
+DIVISORS = (0, 1, 2, 3, 4, 5, 7, 10, LARGEST_N * (LARGEST_N + 1), (1 << 25) + 1)
+DIVISORS += (*(LEAST + i for i in (-1, 0, 1)), LIMIT - 2, LIMIT - 1)
 
 
 def at_limits():

@@ -7,7 +7,7 @@ from edges import MOST_32
 from encounters import MISSES, SIZES
 from exact_series import Encounter, letters
 from records import KINDS, MOST_COUNT, READ, add, packed
-from reference import LARGEST, LARGEST_N, LARGEST_T, Session
+from reference import LARGEST, LARGEST_2M, LARGEST_N, LARGEST_T, Session, refusal_of
 
 
 def whole(rng, most):
@@ -43,7 +43,7 @@ def radius(rng, sy):
 
 
 def ordinary(rng):
-    """Within the limits of tests 3 to 6; test 7 refuses some."""
+    """Within the limits of tests 3 to 6; tests 7 and 11 refuse some."""
     sx, sy = sigmas(rng)
     return Encounter(radius(rng, sy), sx, sy, miss(rng, sx), miss(rng, sy))
 
@@ -66,9 +66,9 @@ def with_least(rng, low, high, count):
 
 
 def beside_M(rng, M):
-    """Two accepted ones that differ by 1 in ym: the exact M of one is this number or below it, of the other above it.
+    """Two that differ by 1 in ym: the exact M of one is this number or below it, of the other above it.
 
-    Both are off by less than 1.
+    Both are off by less than 1, and no test but 11 refuses them.
     """
     while True:
         sx, sy = sigmas(rng)
@@ -77,8 +77,13 @@ def beside_M(rng, M):
         square = math.floor((M - orders.exact_M(first)) * 2 * sy * sy / letters(first).u)
         if square >= 0:
             found = [first._replace(ym=math.isqrt(square) + more) for more in (0, 1)]
-            if all(abs(orders.exact_M(one) - M) < 1 and orders.begun(one) for one in found):
+            if all(abs(orders.exact_M(one) - M) < 1 and refusal_of(*one) in (0, 11) for one in found):
                 return found
+
+
+def beside_largest_M(rng):
+    """Two beside the limit of test 11."""
+    return beside_M(rng, LARGEST_2M // 2)
 
 
 def beside_64(rng):
@@ -136,7 +141,7 @@ def encounter(rng):
     if way == 1:
         return within_limits(rng)
     if way == 2:
-        return rng.choice((*beside_64(rng), *near_64(rng)))
+        return rng.choice((*beside_64(rng), *near_64(rng), *beside_largest_M(rng)))
     if way == 3:
         return with_exact_terms(rng)
     return ordinary(rng)

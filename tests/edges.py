@@ -1,6 +1,21 @@
 """Fractions, encounters, orders and scripts with the answer that documents 01 and 02 give, and decimals of numbers."""
 
-from encounters import ALFANO_3, ALFANO_5, FIVE, FULL, HALF, LARGE, LOST_B, LOST_P, PAST_FULL, TEST_1, THIN, THIRDS
+from encounters import (
+    ALFANO_3,
+    ALFANO_5,
+    AT_64,
+    FIVE,
+    FULL,
+    HALF,
+    LARGE,
+    LATEST,
+    LOST_B,
+    LOST_P,
+    PAST_FULL,
+    TEST_1,
+    THIN,
+    THIRDS,
+)
 from records import KINDS, MOST_COUNT, READ, add, begin, begin_conjunction
 from reference import LARGEST, LARGEST_N, LONGEST_SCRIPT
 from scaled import LEAST, LIMIT, ONE, ZERO, Scaled
@@ -13,10 +28,12 @@ RATIOS = (
     (0, 1, ZERO, ZERO),
 )
 
+# The tests of a begin of kind 1, in their order; kind 4 has 9 after them.
+BEGIN_TESTS = (3, 4, 5, 6, 7, 11)
 # A call and what it may answer: 0, or a refusal.
 ANSWERS = {
-    *(("begin", answer) for answer in (0, 3, 4, 5, 6, 7)),
-    *(("begin_conjunction", answer) for answer in (0, 3, 4, 5, 6, 7, 9)),
+    *(("begin", answer) for answer in (0, *BEGIN_TESTS)),
+    *(("begin_conjunction", answer) for answer in (0, *BEGIN_TESTS, 9)),
     *(("add", answer) for answer in (0, 21, 22)),
     *(("read", answer) for answer in (0, 21, 23)),
     *(("advise", answer) for answer in (0, 21)),
@@ -100,6 +117,24 @@ MORE_THAN_ONE = (
     (True, 2173451533, -134),
 )
 
+# Request #109: an encounter with M at 513 or next to it; on which side of 513 its exact M is (-1 below, 0 at it, 1
+# above); how many scaled numbers its upper M is above 513; the same of M by the lower side's steps; the refusal of its
+# begin, or 0.
+AT_TEST_11 = (
+    (LATEST, 0, 0, 0, 0),
+    ((32, 4, 4, 16, 15), 0, 0, 0, 0),
+    ((36, 6, 4, -39, 8), 0, 1, -1, 11),
+    # t is 64.
+    ((611968, 112627, 76496, 901016, 0), -1, -1, -3, 0),
+    ((329688, 60676, 41211, -485408, 0), -1, 0, -2, 0),
+    ((706784, 130077, 88348, 1040616, 0), -1, 1, -1, 11),
+    ((377096, 69401, 47137, 555208, 0), 1, 1, 0, 11),
+    # ym is not 0.
+    ((1613506, 192707, 192706, 369225, -936148), -1, -1, -3, 0),
+    ((851295, 155194, 155194, 403884, 1196349), -1, 0, -2, 0),
+    ((2900875, 317982, 317982, -12932, 1513489), -1, 1, -1, 11),
+    ((1099106, 142084, 142083, 740928, -320814), 1, 1, -1, 11),
+)
 # Each encounter with the refusal of its begin, or 0.
 BEGINS = (
     (3, (0, 1, 1, 0, 0)),
@@ -125,6 +160,7 @@ BEGINS = (
     (6, (1, 1, 1, 0, -PAST)),
     (6, (LARGEST, 1, 1, LOW, HIGH)),
     (6, (1, LARGEST, 1, HIGH, LOW)),
+    # M is 1,072, so test 11 would refuse it too.
     (7, PAST_FULL),
     (7, ALFANO_5),
     (7, (LARGEST, 1, 1, 0, 0)),
@@ -135,19 +171,27 @@ BEGINS = (
     # Exact t is 64, but its three parts are rounded up.
     (7, (32, 3, 3, 8, 8)),
     (7, (8, 3, 3, -32, 8)),
+    # M is 1,056.
+    (11, FULL),
+    (11, FULL._replace(xm=-8)),
+    (11, (8, 1, 1, 0, -8)),
+    # M is 1,072.3. Where t is at most 64, M is at most u(1.5 + t - u), so none is above 1,072.57.
+    (11, (8093, LARGEST, 1000, 0, 7905)),
+    # t is 64, and M is 513.1, then 512.1.
+    (11, (288, 53, 36, 424, 0)),
+    (0, AT_64),
+    *((refusal, inputs) for inputs, *_, refusal in AT_TEST_11),
     (0, HALF),
-    (0, FULL),
     (0, (7, 7, 7, 0, 0)),
     (0, (11, 1, 1, 0, 0)),
-    (0, (8, 1, 1, 0, -8)),
     (0, LARGE),
     (0, (1, LARGEST, 1, LARGEST, 0)),
     (0, (LARGEST, LARGEST, LARGEST, 0, 0)),
     (0, (1, LARGEST, 1, 0, 0)),
     (0, THIN),
 )
-# A begin for each of the refusals 3 to 7.
-REFUSED = [next(inputs for r, inputs in BEGINS if r == refusal) for refusal in range(3, 8)]
+# A begin that each of these tests refuses, in their order.
+REFUSED = [next(inputs for r, inputs in BEGINS if r == refusal) for refusal in BEGIN_TESTS]
 
 # Request #104: object numbers and times, up to the largest ones. The two are never the same number, so that it is seen
 # where they are exchanged.
@@ -167,20 +211,22 @@ OBJECTS = (
 def conjunctions():
     """Begins of kind 4, each with its refusal, or 0: those above, with an object number and with 0.
 
-    "It refuses, as 9 after test 7, a kind 4 record whose object number is 0": only one that no earlier test refuses.
+    "It refuses, as 9 after test 7, a kind 4 record whose object number is 0": only one that no earlier test refuses,
+    11 among them, which is "after test 7 and before 9".
     """
     for refusal, inputs in BEGINS:
         for number, time in OBJECTS if inputs == HALF else (OBJECTS[0], OBJECTS[-1]):
             yield refusal or (9 if number == 0 else 0), (*inputs, number, time)
 
 
-# A begin of kind 4 for each of the refusals 3 to 7, with an object number and with 0, and one that is refused as 9.
+# A begin of kind 4 for each of these tests, with an object number and with 0, and one that is refused as 9.
 REFUSED_CONJUNCTIONS = [(*inputs, *both) for inputs in REFUSED for both in (OBJECTS[0], OBJECTS[-1])]
 REFUSED_CONJUNCTIONS += [(*HALF, *OBJECTS[-1])]
 
 # The least order that is read.
 LEAST_ORDERS = (
-    ("(8, 1, 1, 8, 0)", FULL, 2110),
+    ("(18, 4, 3, 36, 9)", LATEST, 1024),
+    ("(152, 28, 19, 224, 0)", AT_64, 1023),
     ("Test 1", TEST_1, 36),
     ("Alfano 3", ALFANO_3, 597),
 )
@@ -266,12 +312,10 @@ ADVISED = (
     (HALF, 13),
     (THIN, 13),
     ((20, 10, 10, 0, 0), 17),
-    # M is 18.7 and 299.1.
+    # M is 18.7, 299.1 and 513.
     (TEST_1, 66),
     (ALFANO_3, None),
-    # M is 1,056, and 1,072.3. It is at most u(1.5 + t - u), so none is above 1,072.57.
-    (FULL, None),
-    ((8093, LARGEST, 1000, 0, 7905), None),
+    (LATEST, None),
     *((inputs, order) for _, inputs, *_, order in AT_WHOLE_M),
 )
 
@@ -308,7 +352,7 @@ AT_DECIMAL_EDGES = (
 
 # Scripts, each with its name and its listing.
 
-BEGIN_HALF, BEGIN_FULL = begin(*HALF), begin(*FULL)
+BEGIN_HALF, BEGIN_FULL, BEGIN_LATEST = begin(*HALF), begin(*FULL), begin(*LATEST)
 # One of kind 4.
 BEGIN_OBJECT = begin_conjunction(*HALF, *OBJECTS[0])
 
@@ -320,8 +364,9 @@ def begins():
 
 
 def of_document():
-    script = BEGIN_FULL + READ + add(LARGEST_N) + b"\x09"
-    yield "the whole listing", script, "0 begun 1\n21 refused 23\n22 refused 22\n25 refused 1\n"
+    script = BEGIN_FULL + READ + add(4096) + b"\x09"
+    # Request #109: "its begin line now shows the new number, and the read and the add each show 21."
+    yield "the whole listing", script, "0 refused 11\n21 refused 21\n22 refused 21\n25 refused 1\n"
     yield "the largest add", BEGIN_HALF + add(LARGEST_N - 1), f"0 begun 1\n21 added {LARGEST_N}\n"
     yield "one more", BEGIN_HALF + add(LARGEST_N), "0 begun 1\n21 refused 22\n"
 
@@ -353,7 +398,7 @@ def of_the_state():
         ("after a refused begin", begin(*REFUSED[0]) + add(1) + READ, "0 refused 3\n21 refused 21\n24 refused 21\n"),
         ("going on after 21", READ + add(1) + BEGIN_HALF, "0 refused 21\n1 refused 21\n4 begun 1\n"),
         ("going on after 22", BEGIN_HALF + add(MOST_COUNT) + add(1), "0 begun 1\n21 refused 22\n24 added 2\n"),
-        ("going on after 23", BEGIN_FULL + 3 * READ + add(1), "0 begun 1\n" + refused(21, 3, 23) + "24 added 2\n"),
+        ("going on after 23", BEGIN_LATEST + 3 * READ + add(1), "0 begun 1\n" + refused(21, 3, 23) + "24 added 2\n"),
         ("add 0", BEGIN_HALF + add(0) + add(0), "0 begun 1\n21 added 1\n24 added 1\n"),
         ("256 is not 1", BEGIN_HALF + add(256), "0 begun 1\n21 added 257\n"),
         ("two's complement", begin(8, 1, 1, -8, -1), "0 refused 7\n"),
@@ -402,12 +447,12 @@ def of_objects():
         due = accepted if number else "0 refused 9\n29 refused 21\n32 refused 21\n"
         yield f"object {number} at {time}", script, due
     # Both are kept where a begin is refused, of either kind.
-    for refusal, inputs in zip(range(3, 8), REFUSED):
+    for refusal, inputs in zip(BEGIN_TESTS, REFUSED):
         for record in begin(*inputs), begin_conjunction(*inputs, 7, 8), begin_conjunction(*inputs, 0, 8):
             due = f"{lines}33 refused {refusal}\n{33 + len(record)} {read} 25544 1440 2\n"
             yield f"kept after {refusal}, kind {record[0]}", begun + record + READ, due
     due = f"{lines}33 refused 9\n62 {read} 25544 1440 2\n"
-    yield "kept after 9", begun + begin_conjunction(*FULL, 0, 8) + READ, due
+    yield "kept after 9", begun + begin_conjunction(*LATEST, 0, 8) + READ, due
     # "After a kind 1 begin both are 0", and after another one of kind 4 they are its own.
     again = f"{lines}33 begun 1\n54 added 3\n57 {read} 0 0 2\n"
     yield "kind 1 after kind 4", begun + BEGIN_HALF + add(2) + READ, again

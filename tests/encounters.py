@@ -65,12 +65,15 @@ ALFANO_3 = Encounter(1500, 11425, 141, 15, -388)
 ALFANO_5 = Encounter(1000, 17781, 3, 212, -122)
 IN_CENTIMETRES = {"Test 1": TEST_1, "Alfano 3": ALFANO_3, "Alfano 5": ALFANO_5}
 
-# Those of document 01's edges, and the largest inputs.
+# Those of document 01's edges, the largest inputs, and those of request #109's edge.
 HALF = Encounter(10, 10, 10, 0, 0)
 FULL = Encounter(8, 1, 1, 8, 0)
 PAST_FULL = Encounter(8, 1, 1, 8, 1)
 LARGE = Encounter(LARGEST, LARGEST, LARGEST, LARGEST, -LARGEST)
 WIDE = Encounter(11, LARGEST, 1, LARGEST, -1)
+# Request #109: M is 513, so it is read at the largest order and at no other; t is 63. Then t is 64, and M is 512.1.
+LATEST = Encounter(18, 4, 3, 36, 9)
+AT_64 = Encounter(152, 28, 19, 224, 0)
 EDGES = {
     "Edge 1": HALF,
     "Edge 2": FULL,
@@ -78,6 +81,8 @@ EDGES = {
     "Edge 4": PAST_FULL,
     "Edge 5": LARGE,
     "Edge 6": WIDE,
+    "Edge 7": LATEST,
+    "Edge 8": AT_64,
 }
 # Others.
 SMALL = Encounter(7, 9, 5, -4, 3)

@@ -1,7 +1,8 @@
 /* Lends a session with words behind it to both begins and to add, and exits with 1 where one of these words was written: so the header's session is as large as
  * the library's, or larger. That it is not larger: tests/texts.py holds its words to those of fields.py, which tests/bindings.py compares with the library's.
  * Also where a read answers another object number or time than those of the last begin that was accepted, or another count of exact terms than the encounter's,
- * and where advise answers another order or refusal than is due, or changes the session.
+ * where a begin whose 2M is above 1,026 is not refused as 11, also with an object number of 0, and where advise answers another order or refusal than is due, or
+ * changes the session.
  * A session, a conjunction, an answer or an advice of the header that has padding does not compile here. */
 #include <string.h>
 
@@ -33,7 +34,7 @@ int main(void)
         jinthuol_session session;
         uint32_t guard[64];
     } lent;
-    jinthuol_encounter encounter = {3, 4, 3, 8, 0};
+    jinthuol_encounter encounter = {3, 4, 3, 8, 0}, too_long = {8, 1, 1, 8, 0};
     jinthuol_conjunction conjunction = {encounter, 25544, 1440};
 
     memcpy(lent.guard, behind, sizeof behind);
@@ -47,6 +48,13 @@ int main(void)
     conjunction.object = 0;
     conjunction.time = 7;
     if (jinthuol_begin_conjunction(&lent.session, conjunction).refusal != 9 || !answers(lent.session, 25544, 1440)) {
+        return 1;
+    }
+    conjunction.encounter = too_long;
+    if (jinthuol_begin_conjunction(&lent.session, conjunction).refusal != 11 || !answers(lent.session, 25544, 1440)) {
+        return 1;
+    }
+    if (jinthuol_begin(&lent.session, too_long).refusal != 11 || !answers(lent.session, 25544, 1440)) {
         return 1;
     }
     if (!advises(&lent.session, 0, 17)) {

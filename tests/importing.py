@@ -27,7 +27,7 @@ import options
 import scaled
 from checks import Checks
 from edges import ADVISED, EXACT_TERMS
-from encounters import AT_THRESHOLD, FULL, TEST_1
+from encounters import AT_THRESHOLD, FULL, LATEST, TEST_1
 from options import ROOT
 from reference import REFUSALS
 
@@ -207,6 +207,7 @@ AT_55 = f"{ENDS_55}, exact terms: 1"
 def of_answers(module):
     session, wrong, test_1 = module.Session.empty(), (0, 1, 1, 0, 0), (500, 5000, 100, 1000, 0)
     conjunction = module.Conjunction(module.Encounter(*test_1), object=25544, time=1440)
+    full = module.Conjunction(module.Encounter(*FULL), object=7, time=8)
     of_advice(module)
     for answer, due in (
         (session.read(), "refused 21: add or read with no encounter begun"),
@@ -215,9 +216,12 @@ def of_answers(module):
         (session.add(54), "N = 55"),
         (session.read(), AT_55),
         (session.begin_conjunction(conjunction._replace(object=0)), "refused 9: kind 4: object number is 0"),
+        (session.begin_conjunction(full._replace(object=0)), "refused 11: begin: 2M above 1,026"),
+        (session.begin(full.encounter), "refused 11: begin: 2M above 1,026"),
         (session.read(), AT_55),
         (session.begin_conjunction(conjunction), "N = 1"),
         (session.add(54), "N = 55"),
+        (session.begin_conjunction(full), "refused 11: begin: 2M above 1,026"),
         (session.read(), f"{ENDS_55}, object 25544 at minute 1440, exact terms: 1"),
         (session.begin(conjunction.encounter), "N = 1"),
         (session.add(54), "N = 55"),
@@ -277,7 +281,7 @@ def of_advice(module):
     """Request #106: what advise answers, in fields and in words, and that it keeps the session."""
     session = module.Session.empty()
     refused = session.advise(), False, "refused 21: add or read with no encounter begun"
-    session.begin(module.Encounter(*FULL))
+    session.begin(module.Encounter(*LATEST))
     none = session.advise(), False, "no order: M above 256"
     session.begin(module.Encounter(*TEST_1))
     kept = module.Kept.from_buffer_copy(session.kept)

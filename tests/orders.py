@@ -4,7 +4,7 @@ import math
 from fractions import Fraction
 
 import exact_series
-from reference import Session
+from reference import LARGEST_2M, LARGEST_T, Session
 
 
 def begun(encounter):
@@ -44,6 +44,13 @@ def exact_M(encounter):
     """M without rounding."""
     u, h, X, Y, _, _ = exact_series.letters(encounter)
     return u + h / 2 + X + Y
+
+
+def exact_refusal(encounter):
+    """Tests 7 and 11 by the exact t and M, for an encounter that tests 3 to 6 pass: the number, or 0."""
+    if exact_series.letters(encounter).t > LARGEST_T:
+        return 7
+    return 11 if 2 * exact_M(encounter) > LARGEST_2M else 0
 
 
 def exact_least(encounter):

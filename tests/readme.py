@@ -26,11 +26,11 @@ import records
 import scaled
 from brackets import as_float
 from checks import Checks
-from encounters import ASTRIDE, DOCUMENTS, TEST_1
+from encounters import ASTRIDE, DOCUMENTS, FULL, TEST_1
 from exact_series import Encounter
 from markdown import blocks, section
 from options import ROOT
-from reference import REFUSALS
+from reference import REFUSALS, refusal_of
 from scaled import Scaled
 
 # Seconds for one command.
@@ -142,8 +142,9 @@ def of_equal_weights():
     for solutions in [TEST_1], [NEXT_TO_1, TEST_1], [NEXT_TO_1]:
         lines, _ = as_weighted(solutions)
         prints(" ".join([program, *(str(number) for inputs in solutions for number in inputs)]), lines)
-    lines, _ = as_weighted([TEST_1, DOCUMENTS["Alfano 3"]])
-    prints(f"{program} {inputs} {' '.join(map(str, DOCUMENTS['Alfano 3']))}", lines, status=1)
+    for other in DOCUMENTS["Alfano 3"], FULL:
+        lines, _ = as_weighted([TEST_1, other])
+        prints(f"{program} {inputs} {' '.join(map(str, other))}", lines, status=1)
     is_wrong_use(program, ("", "1 2 3 4", f"{inputs} 1", "1 2 3 4 x", "-1 2 2 0 0", f"{1 << 32} 2 2 0 0"))
 
 
@@ -151,11 +152,12 @@ def as_weighted(solutions):
     """What examples/equal-weights.py prints of the solutions, and whether one of them is not read."""
     lines, sums = [], [0, 0]
     for n, encounter in enumerate(solutions, 1):
-        begun = orders.begun(encounter)
-        order = begun and orders.advised(encounter)
+        refusal = refusal_of(*encounter)
+        order = None if refusal else orders.advised(encounter)
         if not order:
-            refused = REFUSALS[7]
-            why = "no order is advised, since M is above 256." if begun else f"the begin was refused 7: {refused}."
+            why = "no order is advised, since M is above 256."
+            if refusal:
+                why = f"the begin was refused {refusal}: {REFUSALS[refusal]}."
             lines.append(f"Solution {n}: {why}")
             lines.append("Not computed: it needs every solution. A refusal says nothing about the probability.")
             return lines, True

@@ -1,5 +1,5 @@
-"""The rounded steps, the session and the calls of document 01, as requests #101 to #106 change them; division.py has
-#107.
+"""The rounded steps, the session and the calls of document 01, as requests #101 to #106 and #109 change them;
+division.py has #107.
 
 A number of the steps is a triple (m, e, lost), as in rounded.py: so each number's way is what the steps say. An end is
 a pair (m, e). records.py has the script and its listing.
@@ -16,7 +16,10 @@ from rounded import DOWN, ONE, UP, ZERO, above, at_least, doubled, halved
 # Document 01's numbers. The largest R, sx, sy and miss, in centimetres:
 LARGEST = 10_000_000
 LARGEST_T = 64
-LARGEST_N = 4096
+# Request #109: "no order went above 1,024. That becomes the limit in place of 4,096, and 22 falls above it."
+LARGEST_N = 1024
+# 1,026 in the same request's test 11: test 23 refuses every read of an encounter whose 2M is above it.
+LARGEST_2M = LARGEST_N + 2
 # In bytes.
 LONGEST_SCRIPT = 65_536
 # The rounded exponential sums have the terms r(0) to r(255), and r(256) is the next one.
@@ -25,7 +28,7 @@ EXPONENTIAL_CUT = 256
 THRESHOLD_FACTOR = 10_000
 
 # Both tables of refusals, in their order, with what request #104 adds: "Kind 4 joins the accepted kinds in refusal 1."
-# Then 10, of request #107, which no record meets.
+# Request #109 has 11 "after test 7 and before 9". Then 10, of request #107, which no record meets.
 REFUSALS = {
     8: "script file longer than 65,536 bytes",
     1: "no kind byte, or kind is not 1, 2, 3 or 4",
@@ -35,9 +38,10 @@ REFUSALS = {
     5: "sy above sx",
     6: "a miss outside −10,000,000 to 10,000,000",
     7: "upper t above 64",
+    11: "begin: 2M above 1,026",
     9: "kind 4: object number is 0",
     21: "add or read with no encounter begun",
-    22: "add: N + count above 4,096",
+    22: "add: N + count above 1,024",
     23: "read: 2M above N + 2",
     10: "divide: divisor 0, number not in the scaled form, or e below −1,000,000,000",
 }
@@ -85,6 +89,12 @@ def first(r, R, sx, sy, xm, ym):
         v=c,
         y=c,
     )
+
+
+# "Upper side only: M = U(U(U(u + h/2) + X) + Y)"
+def M_of(upper):
+    """M of the upper side."""
+    return UP.plus(UP.plus(UP.plus(upper.u, halved(upper.h)), upper.X), upper.Y)
 
 
 # "The exponential has r(0) = 1, r(k) = D(D(r(k−1) × t)/k), added likewise for k to 255."
@@ -168,7 +178,7 @@ def class_of(lower, upper):
 
 
 def refusal_of(R, sx, sy, xm, ym):
-    """Tests 3 to 7: the number of the first that refuses the five inputs, or 0."""
+    """Tests 3 to 7 and 11: the number of the first that refuses the five inputs, or 0."""
     if R == 0 or R > LARGEST:
         return 3
     if sx == 0 or sx > LARGEST or sy == 0 or sy > LARGEST:
@@ -177,7 +187,11 @@ def refusal_of(R, sx, sy, xm, ym):
         return 5
     if abs(xm) > LARGEST or abs(ym) > LARGEST:
         return 6
-    return 7 if above(first(UP, R, sx, sy, xm, ym).t, LARGEST_T) else 0
+    upper = first(UP, R, sx, sy, xm, ym)
+    if above(upper.t, LARGEST_T):
+        return 7
+    # Request #109: "It refuses, as 11 after test 7 and before 9, a begin whose 2M is above 1,026."
+    return 11 if above(doubled(M_of(upper)), LARGEST_2M) else 0
 
 
 # "It starts empty, with zero in every field." An encounter is begun just where N is not 0.
@@ -228,7 +242,7 @@ class Session:
         upper.exponential, self.r256 = exponential(UP, upper.t)
         self.R, self.sx, self.sy, self.xm, self.ym, self.object, self.time = R, sx, sy, xm, ym, object, time
         self.lower, self.upper = lower, upper
-        self.M = UP.plus(UP.plus(UP.plus(upper.u, halved(upper.h)), upper.X), upper.Y)
+        self.M = M_of(upper)
         self.d = upper.c
         self.exact = exact_terms([lower.c], [upper.c])
         self.N = 0

@@ -20,9 +20,8 @@ import drawn
 import drivers
 import orders
 import scratch
-from encounters import DOCUMENTS
-from exact_series import Encounter
-from reference import EXPONENTIAL_CUT, LARGEST, first, rounds
+from encounters import AT_64, DOCUMENTS, HALF, THIN
+from reference import EXPONENTIAL_CUT, first, rounds
 from rounded import DOWN, UP
 from scaled import ZERO
 
@@ -35,7 +34,7 @@ LINES = EXPONENTIAL_CUT + 2
 # The encounters of one run: the interpreter takes fewer than 1,000,000 steps for one.
 BATCH = scratch.MOST_STEPS // 1_000_000
 # The least t, the largest, and t = 1/2.
-EDGES = [Encounter(1, LARGEST, LARGEST, 0, 0), Encounter(8, 1, 1, 8, 0), Encounter(10, 10, 10, 0, 0)]
+EDGES = [THIN, AT_64, HALF]
 DRAWN = 12
 
 

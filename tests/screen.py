@@ -26,10 +26,10 @@ import fields
 import options
 import orders
 from checks import Checks, shortened
-from edges import BEGIN_FULL, BEGIN_HALF, BEGIN_OBJECT, MOST_32
-from encounters import ALFANO_3, ALFANO_5, AT_THRESHOLD, DOCUMENTS, FULL, HALF, SMALL, TEST_1
+from edges import BEGIN_FULL, BEGIN_HALF, BEGIN_LATEST, BEGIN_OBJECT, MOST_32
+from encounters import ALFANO_3, ALFANO_5, AT_THRESHOLD, DOCUMENTS, FULL, HALF, LATEST, SMALL, TEST_1
 from records import READ, add, begin, begin_conjunction, listing, packed, printed, printed_decimals
-from reference import LARGEST, LARGEST_N, LARGEST_T, LONGEST_SCRIPT, Answer
+from reference import LARGEST, LARGEST_N, LONGEST_SCRIPT, Answer
 
 EXAMPLES = options.ROOT / "examples"
 # Seconds for one script.
@@ -128,9 +128,9 @@ def of_edges():
         due = f"0 begun 1\n21 added {N - 1}\n24 refused 23\n25 added {N}\n28 read {N} "
         check(found.startswith(due), f"{name}: {found}")
     check(" read 1 " in compare("(10, 10, 10, 0, 0) at N = 1", BEGIN_HALF + READ), "(10, 10, 10, 0, 0) at N = 1")
-    N = orders.least(FULL)
-    calls = READ + add(N - 2) + READ + add(1) + READ + add(LARGEST_N - N) + READ
-    compare("xm = -8", begin(*FULL._replace(xm=-8)) + calls, compare("xm = 8", BEGIN_FULL + calls))
+    calls = READ + add(LARGEST_N - 2) + READ + add(1) + READ
+    for record, other in (BEGIN_FULL, FULL._replace(xm=-8)), (BEGIN_LATEST, LATEST._replace(xm=-36)):
+        compare(f"xm = {other.xm}", begin(*other) + calls, compare(f"xm = {-other.xm}", record + calls))
     # Each begin stands between an encounter and an add of 0, which answers the earlier order.
     for refusal, record in edges.begins():
         found = compare(f"begin {record.hex()}", BEGIN_OBJECT + add(2) + record + add(0) + READ)
@@ -163,11 +163,11 @@ def of_long_work():
     first = begin_conjunction(*HALF, MOST_32, MOST_32 - 1)
     compare("an encounter and reads", first + READ * (LONGEST_SCRIPT - len(first)))
     # Encounters of the largest order, one after another. reference.py would take minutes; only the offsets differ here.
-    one = BEGIN_FULL + add(LARGEST_N - 1)
+    one = BEGIN_LATEST + add(LARGEST_N - 1)
     times = LONGEST_SCRIPT // len(one)
     begun, added, read = (line.split(" ", 1)[1] for line in listing(one + READ).splitlines())
     starts = [len(one) * n for n in range(times)]
-    lines = [f"{at} {begun}\n{at + len(BEGIN_FULL)} {added}\n" for at in starts]
+    lines = [f"{at} {begun}\n{at + len(BEGIN_LATEST)} {added}\n" for at in starts]
     due = "".join(lines) + f"{len(one) * times} {read}\n"
     compare(f"{times} encounters of the largest order", one * times + READ, due)
 
@@ -211,6 +211,7 @@ def of_cut_short(rng):
     script = READ + BEGIN_HALF + READ + add(3) + READ + begin(*edges.REFUSED[0]) + add(258) + READ + add(LARGEST_N - 1)
     script += begin(*TEST_1) + add(34) + READ + add(1) + READ + begin(1, 2, 3, 0, 0) + READ
     script += begin(*SMALL) + add(0) + READ + begin(*ALFANO_5) + add(30) + READ + BEGIN_FULL + READ
+    script += BEGIN_LATEST + READ
     script += BEGIN_OBJECT + READ + begin_conjunction(*edges.REFUSED_CONJUNCTIONS[-1]) + READ + BEGIN_HALF + READ
     script += drawn.script(rng, 12, 300)
     for length in range(len(script) + 1):
@@ -219,7 +220,8 @@ def of_cut_short(rng):
 
 def of_pipes(rng):
     """Short reads: the program gets what one write brought, and must go on to the end. Then short writes."""
-    script = BEGIN_FULL + READ + add(2109) + READ + BEGIN_OBJECT + READ + begin(*ALFANO_3) + add(596) + READ + add(1)
+    script = BEGIN_LATEST + READ + add(LARGEST_N - 1) + READ + BEGIN_OBJECT + READ
+    script += begin(*ALFANO_3) + add(596) + READ + add(1)
     for name, bytes_, pieces, pause in (
         ("one byte at a time", script, (1,), 0.002),
         ("pieces of 1 to 7 bytes", script, (1, 7, 3, 2), 0.004),
@@ -266,12 +268,12 @@ def of_documents(name, encounter):
     if checks.failures > failures:
         return
     lines = found.splitlines()
-    due = 7 if exact_series.letters(encounter).t > LARGEST_T else 0
+    due = orders.exact_refusal(encounter)
     check(printed(lines[0]).refusal == due, f"{name}: {lines[0]}")
     reads = [printed(line) for line in lines[1::2]]
     check(len(reads) == LARGEST_N, f"{name}: {len(reads)} reads")
     if due:
-        check(all(read == Answer(21) for read in reads), f"{name}: reads after refusal 7")
+        check(all(read == Answer(21) for read in reads), f"{name}: reads after refusal {due}")
         return
     # In none of these cases is 2M so near a whole number that its rounding decides.
     least = orders.exact_least(encounter)

@@ -30,9 +30,9 @@ import reference
 import rounded
 import scaled
 from checks import Checks
-from encounters import DOCUMENTS, FIVE, FULL, HALF, LOST_B, LOST_P, SMALL, TEST_1
+from encounters import AT_64, DOCUMENTS, FIVE, HALF, LATEST, LOST_B, LOST_P, SMALL, TEST_1
 from records import MOST_COUNT
-from reference import EXPONENTIAL_CUT, LARGEST, LARGEST_N, Advice, Answer, Session, Side
+from reference import EXPONENTIAL_CUT, LARGEST, LARGEST_2M, LARGEST_N, Advice, Answer, Session, Side
 from scaled import LEAST, LIMIT, ZERO, Scaled
 
 checks = Checks("self_test")
@@ -150,7 +150,8 @@ def steps(up, R, sx, sy, xm, ym, N):
 def of_steps(rng):
     """Every stored number with what was lost on its way, the count of exact terms, and both ends."""
     reads = 0
-    tried = HALF, FULL, SMALL, TEST_1, FIVE, LOST_B, LOST_P, DOCUMENTS["CSM 1"], DOCUMENTS["CSM 2"], drawn.accepted(rng)
+    tried = HALF, LATEST, SMALL, TEST_1, FIVE, LOST_B, LOST_P, DOCUMENTS["CSM 1"], DOCUMENTS["CSM 2"]
+    tried += (drawn.accepted(rng),)
     for inputs, N in [(inputs, N) for inputs in tried for N in (rng.randrange(1, 6), rng.randrange(6, 30))]:
         session = orders.at_order(inputs, N)
         lower, _, _, _, terms = steps(False, *inputs, N)
@@ -248,7 +249,7 @@ def of_least_end():
 
     c(0) is least for the least R and the largest sigmas, and the upper exponential is largest for t = 64.
     """
-    session = orders.begun(FULL)
+    session = orders.begun(AT_64)
     above = rounded.UP.plus(session.upper.exponential, rounded.doubled(session.r256))
     least = Scaled(*rounded.DOWN.quotient(rounded.DOWN.ratio(1, 2 * LARGEST**2), above)[:2])
     found = [decimals.text(decimals.decimal(up, least)) for up in (False, True)]
@@ -351,6 +352,32 @@ def of_calls(rng):
         call(pieces == orders.at_order(inputs, 101) and pieces.N == 101, f"adds in pieces {inputs}")
 
 
+def stepped(M, steps):
+    """The scaled number that is so many above the whole number M, or below it."""
+    near = scaled.whole(M)
+    for _ in range(abs(steps)):
+        near = scaled.above(near) if steps > 0 else scaled.below(near)
+    return near
+
+
+def sign(q):
+    return (q > 0) - (q < 0)
+
+
+def of_test_11():
+    """Request #109 at its limit: where M is, without rounding and by the steps of each side, and what a begin answers.
+
+    A test of the lower side's M, or of the exact M, would let begins pass that are refused here.
+    """
+    largest = LARGEST_2M // 2
+    for inputs, side, *off, refusal in edges.AT_TEST_11:
+        found = [Scaled(*steps(up, *inputs, 1)[2][:2]) for up in (True, False)]
+        ok = sign(orders.exact_M(inputs) - largest) == side and found == [stepped(largest, n) for n in off]
+        checks.check(ok and refusal == (11 if off[0] > 0 else 0), "calls", f"M of {inputs}: {found}")
+    passing = [(side <= 0, lower <= 0) for _, side, _, lower, refusal in edges.AT_TEST_11 if refusal]
+    checks.check(all(map(any, zip(*passing))), "calls", f"the exact and the lower M of begins refused as 11: {passing}")
+
+
 # The advice.
 
 
@@ -379,10 +406,7 @@ def of_advice(rng):
         checks.check(found == Advice(21) and empty == Session(), "advice", f"on an empty session: {found}")
     for M, inputs, side, steps, _ in edges.AT_WHOLE_M:
         exact, upper = orders.exact_M(inputs), Scaled(*orders.begun(inputs).M[:2])
-        near = scaled.whole(M)
-        for _ in range(abs(steps)):
-            near = scaled.above(near) if steps > 0 else scaled.below(near)
-        found = (exact > M) - (exact < M), upper == near
+        found = sign(exact - M), upper == stepped(M, steps)
         checks.check(found == (side, True), "advice", f"M of {inputs}: {exact} and {upper}")
     for inputs, order in edges.ADVISED:
         session = orders.begun(inputs)
@@ -419,6 +443,7 @@ def main():
     of_wrong_counts()
     of_decimals(rng)
     of_calls(rng)
+    of_test_11()
     of_advice(rng)
     of_scripts()
     checks.end()

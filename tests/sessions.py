@@ -32,14 +32,15 @@ from advice import LARGEST_M, ORDERS
 from encounters import (
     ALFANO_3,
     ASTRIDE,
+    AT_64,
     AT_THRESHOLD,
     CLEAR_THEN_OPEN,
     DOCUMENTS,
     EDGES,
     FIVE,
-    FULL,
     HALF,
     LARGE,
+    LATEST,
     LOST_B,
     LOST_P,
     SMALL,
@@ -158,7 +159,7 @@ def of_objects(rng):
     for tried in in_pieces(conjunctions, 24):
         calls = [call for one in tried for call in (one, add(2), READ)]
         yield [begin_conjunction(*SMALL, 11, 12), add(3), *calls]
-    for _ in range(4):
+    for _ in range(3):
         begins = [drawn_begin(rng, drawn.accepted(rng)) for _ in range(6)] + rng.choices(REFUSED, k=9)
         rng.shuffle(begins)
         yield [call for one in begins for call in (one, add(rng.randint(0, 3)), READ)]
@@ -181,10 +182,10 @@ def sums_of_squares(n):
 
 def at_test_7(rng):
     """t at 64, and just below and above it: exact, or only by the rounding."""
-    tried = [(8 * k, k, k, 8 * k, 0) for k in (1, 2, 1000, LARGEST // 8)]
+    tried = [(8 * k, 2 * k, k, 16 * k, 0) for k in (1, 2, 1000, LARGEST // 16)]
     tried += [(8, 1, 1, xm, ym) for xm, ym in ((-8, 0), (0, 8), (8, 1), (-8, -1))]
-    tried += [(8, 2, 1, xm, ym) for xm, ym in ((16, 0), (0, -8), (17, 0), (15, 0))]
-    tried += [(9, 1, 1, 6, 3), (9, 1, 1, -6, 4)]
+    tried += [(8, 2, 1, xm, ym) for xm, ym in ((-16, 0), (0, -8), (17, 0), (15, 0))]
+    tried += [(11, 1, 1, 2, 1), (11, 1, 1, -2, 2)]
     # With sigmas of 3, u is no scaled number unless 3 divides R.
     for n in 1151, 1152, 1153:
         tried += [(R, 3, 3, xm, -ym) for R, xm, ym in list(sums_of_squares(n))[:8]]
@@ -193,6 +194,16 @@ def at_test_7(rng):
     for some in in_pieces(tried, 10):
         calls = [call for inputs in some for call in (begin(*inputs), add(1))]
         yield [begin(*SMALL), add(2), *calls, READ]
+
+
+def at_test_11(rng):
+    """M at 513, and just below and above it: exact, or only by the rounding. A refusal keeps the encounter before."""
+    tried = [inputs for inputs, *_ in edges.AT_TEST_11]
+    for _ in range(4):
+        tried += drawn.beside_largest_M(rng)
+    for some in in_pieces(tried, 9):
+        calls = [call for inputs in some for call in (begin(*inputs), add(1))]
+        yield [begin_conjunction(*SMALL, 11, 12), add(2), *calls, READ]
 
 
 def at_zeros(rng):
@@ -293,6 +304,7 @@ SHORT = [
     at_limits,
     of_objects,
     at_test_7,
+    at_test_11,
     at_zeros,
     at_test_23,
     at_classes,
@@ -307,7 +319,7 @@ SHORT = [
 def to_largest(rng):
     """To the largest N in one add, in some, and one by one; then the adds that test 22 refuses."""
     last = [READ, add(0), add(1), add(MOST_COUNT), READ, REFUSED[0], READ, REFUSED[-1], READ]
-    for inputs in HALF, FULL, FIVE, LARGE, WIDE, THIN, ALFANO_3, drawn.accepted(rng):
+    for inputs in HALF, LATEST, FIVE, LARGE, WIDE, THIN, ALFANO_3, drawn.accepted(rng):
         first = [begin_conjunction(*inputs, 25544, 1440), add(LARGEST_N), add(MOST_COUNT), add(LARGEST_N - 1)]
         yield [*first, *last, begin(*SMALL), READ]
     yield [begin(*SMALL), add(LARGEST_N - 2), add(2), add(1), *last]
@@ -325,7 +337,8 @@ def to_largest(rng):
 
 def at_far_test_23(rng):
     """As at_test_23, for later orders."""
-    for inputs in [FULL, FULL._replace(xm=-FULL.xm), ALFANO_3, *drawn.with_least(rng, 61, LARGEST_N, 20)]:
+    given = LATEST, LATEST._replace(xm=-LATEST.xm), AT_64, ALFANO_3
+    for inputs in [*given, *drawn.with_least(rng, 61, LARGEST_N, 20)]:
         yield [begin(*inputs), add(orders.least(inputs) - 2), READ, add(1), READ]
 
 
@@ -340,14 +353,14 @@ def at_advice(rng):
     for inputs in [TEST_1, SMALL, *(drawn.accepted(rng) for _ in range(20))]:
         order = orders.advised(inputs)
         if order is not None:
-            yield [begin(*inputs), add(order - 2), READ, add(1), READ, add(rng.randint(1, 1000)), READ]
+            yield [begin(*inputs), add(order - 2), READ, add(1), READ, add(rng.randint(1, LARGEST_N - order)), READ]
 
 
 def more_random_calls(rng):
     for _ in range(20):
         yield [random_call(rng, 500) for _ in range(100)]
     for _ in range(200):
-        yield [begin(*drawn.accepted(rng)), add(rng.randint(0, 100)), READ, add(rng.randint(0, 1000)), READ]
+        yield [begin(*drawn.accepted(rng)), add(rng.randint(0, 100)), READ, add(rng.randint(0, LARGEST_N - 101)), READ]
 
 
 LONG = [to_largest, at_far_test_23, beside_whole_M, at_advice, more_random_calls]

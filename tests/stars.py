@@ -19,12 +19,13 @@ import exact_series
 import options
 import orders
 import reference
+import rounded
 import scaled
 from checks import Checks
 
 STARS = options.ROOT / "crates/encounter/specs/Stars.antt"
 # The rows of each case, in document 01's order, and of the encounter beside them.
-ROWS = [2, 2, 2, 2, 14, 4, 3, 3, 5, 2, 1, 3, 22]
+ROWS = [2, 2, 2, 2, 14, 4, 3, 3, 5, 4, 2, 1, 1, 22]
 ENCOUNTERS = {
     "E₁": (10, 10, 10, 0, 0),
     "E₂": (8, 1, 1, 8, 0),
@@ -32,6 +33,7 @@ ENCOUNTERS = {
     "E₄": (8, 1, 1, -8, 0),
     "E₅": (6, 10, 5, 7, -4),
     "E₆": (131071, 131072, 131071, 0, 0),
+    "E₇": (18, 4, 3, 36, 9),
 }
 # What a right side may have besides numbers.
 LITERALS = {"scaled", "negsuc", "pos", "over", "whole", "nought", "a-half", "an-eighth", "^", "+", "(", ")"}
@@ -88,15 +90,16 @@ NAMES = {
     "c": (2, lambda E, n: exact(E)["a"][n] / factorial(n + 1)),
     "series": (2, lambda E, N: sum(exact(E)["a"][n] / factorial(n + 1) for n in range(N))),
     "exponential": (2, lambda E, K: sum(exact(E)["t"] ** k / factorial(k) for k in range(K))),
-    "side-letters": (2, lambda up, E: side(up, E, 1)),
+    "side-letters": (2, lambda up, E: reference.first(rounded.UP if up else rounded.DOWN, *E)),
     "side-start": (2, lambda up, E: pair(side(up, E, 1).c)),
     "side-terms": (3, lambda up, E, n: side(up, E, n + 1)),
-    "M": (1, lambda E: pair(at(E, 1).M)),
+    "M": (1, lambda E: pair(reference.M_of(reference.first(rounded.UP, *E)))),
     "d": (2, lambda E, n: pair(at(E, n).d)),
     "tail-bound": (2, lambda E, N: 2 * value(pair(at(E, N).d))),
     "lower-end": (2, lambda E, N: pair(at(E, N).read().lower)),
     "upper-end": (2, lambda E, N: pair(at(E, N).read().upper)),
     "begins": (1, lambda E: lambda session: begun(E)),
+    "adds": (1, lambda count: lambda session: session.add(count)),
     # The encounter with an object number and a time of 0, as a begin of kind 1 has it.
     "no-object": (1, lambda E: E),
     "state": (2, at),

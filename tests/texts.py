@@ -27,11 +27,11 @@ import orders
 import records
 import scaled
 from checks import Checks
-from encounters import ALFANO_3, CLEAR_THEN_OPEN, DOCUMENTS, EDGES, HALF, SMALL, TEST_1, THIN
+from encounters import ALFANO_3, CLEAR_THEN_OPEN, DOCUMENTS, EDGES, FULL, HALF, SMALL, TEST_1, THIN
 from exact_series import Encounter
 from markdown import README, blocks, section
 from options import ROOT
-from reference import LARGEST_N, REFUSALS, Session
+from reference import LARGEST_2M, LARGEST_N, REFUSALS, Session
 
 EXAMPLES = ROOT / "examples"
 
@@ -49,7 +49,7 @@ def found_in(path, pattern):
 # The tables of refusals.
 
 ALL = list(REFUSALS)
-OF_CALLS = sorted({refusal for _, refusal in edges.ANSWERS if refusal})
+OF_CALLS = [number for number in ALL if number in {refusal for _, refusal in edges.ANSWERS}]
 # Where a table stands, how a row of it looks, and the numbers that it has, in their order.
 TABLES = (
     ("README.md", r"^\| (\d+) \| (.*?) \| \D.*\|.*\|$", ALL),
@@ -277,6 +277,7 @@ def of_readme():
     later = value(orders.at_order(Encounter(20, 10, 10, 0, 0), 6).read().upper)
     stays = stuck[0].read().upper == stuck[1].read().upper and later < value(stuck[0].read().upper)
     checks.check(text in README and stays, "README", text)
+    of_test_11()
     of_figures()
     of_how_many_terms()
     of_printed_ends()
@@ -286,6 +287,20 @@ def of_readme():
 
 def value(end):
     return scaled.value(scaled.Scaled(*end[:2]))
+
+
+def of_test_11():
+    """The limit of test 11, and an encounter above it."""
+    at = Encounter(32, 4, 4, 16, 15)
+    for encounter, factor, text, refusal in (
+        (at, "16.03125", "r = 8 and d² = 16 + 14.0625, so 2M is 64 × 16.03125 = 1,026: it is begun", 0),
+        (FULL, "33", "r = 8 and d = 8, so 2M is 64 × 33 = 2,112: it is refused as 11", 11),
+    ):
+        words = f"({', '.join(map(str, encounter))}) has {text}"
+        twice = 2 * orders.exact_M(encounter)
+        found = words in README, twice, f" = {int(twice):,}: " in text, Session().begin(*encounter).refusal
+        same("README", words, found, (True, 64 * Fraction(factor), True, refusal))
+    same("README", "the limit of test 11", (2 * orders.exact_M(at), orders.least(at)), (LARGEST_2M, LARGEST_N))
 
 
 def of_figures():
@@ -343,6 +358,9 @@ def of_how_many_terms():
         factorial *= N + 1
         ok = 2 * (N - 13) <= 3 * (N + 2) and (N - 13) ** N << 33 <= 3**N * factorial
         checks.check(ok, "orders", f"N = {N} for M = {N - 13}/3")
+    words = "take 1,024, the largest order: up to M = 372 it is enough too, by the same computation. Above, up to 513,"
+    found = words in text, [advice.is_enough(M, LARGEST_N) for M in (372, 373)], LARGEST_2M
+    same("README", words, found, (True, [True, False], 2 * 513))
 
 
 def of_printed_ends():
@@ -426,6 +444,28 @@ def of_printed_examples():
     same("examples", "shift, the last reads", last, list(map(orders.advised, encounters_of(script))))
     of_advised_order()
     of_equal_weights()
+    of_largest_order()
+
+
+def of_largest_order():
+    """What examples/largest-order.md says of its three encounters."""
+    text, lines = (EXAMPLES / "largest-order.md").read_text(), listed("largest-order")
+    begun = encounters_of((EXAMPLES / "largest-order.script").read_bytes())
+    at, above, smaller = (2 * orders.exact_M(encounter) for encounter in begun)
+    lower, later = (value(records.printed(lines[offset]).lower) for offset in (36, 102))
+    for words, holds in (
+        ("so 2M = 8² × (1 + 30.0625/2) = 1,026", at == 64 * (1 + Fraction("30.0625") / 2) == LARGEST_2M),
+        ("as 2M is above 1,025; at 1,024 it is accepted", orders.least(begun[0]) == LARGEST_N),
+        ("the line ends with `alert 9.926e-01 1.000e-00 40115 120 2`", lines[36].endswith(text.split("`")[1])),
+        ("a probability of at least 0.9926", Fraction("0.9926") <= lower),
+        ("the radius is 8.42 of them, and 2M is about 1,252", (f"{16000 / 1900:.2f}", round(above)) == ("8.42", 1252)),
+        ("2M is about 958.6", f"{float(smaller):.1f}" == "958.6"),
+        ("from 957 terms on a read is: at least 0.9357 for 140 m", Fraction("0.9357") <= later),
+        ("from 957 terms on", orders.least(begun[2]) == 957),
+    ):
+        same("examples", f"largest-order: {words}", (words in text, holds), (True, True))
+    # 'The encounter before stays: the read at byte 69 is that of object 40115'
+    same("examples", "largest-order, the refusal", lines[69].split()[1:], lines[36].split()[1:])
 
 
 def of_equal_weights():

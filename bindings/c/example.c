@@ -32,12 +32,14 @@ static const char *condition(uint32_t refusal)
         return "a miss outside -10,000,000 to 10,000,000";
     case 7:
         return "upper t above 64";
+    case 11:
+        return "begin: 2M above 1,026";
     case 9:
         return "kind 4: object number is 0";
     case 21:
         return "add or read with no encounter begun";
     case 22:
-        return "add: N + count above 4,096";
+        return "add: N + count above 1,024";
     case 23:
         return "read: 2M above N + 2";
     default:

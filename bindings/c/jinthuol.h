@@ -25,15 +25,17 @@
  *      5  sy above sx                                      (both begins)
  *      6  a miss outside -10,000,000 to 10,000,000         (both begins)
  *      7  upper t above 64                                 (both begins)
+ *     11  begin: 2M above 1,026                            (both begins)
  *      9  kind 4: object number is 0                       (begin_conjunction)
  *     21  add or read with no encounter begun              (add, read, advise)
- *     22  add: N + count above 4,096                       (add)
+ *     22  add: N + count above 1,024                       (add)
  *     23  read: 2M above N + 2                             (read)
  *     10  divide: divisor 0, number not in the scaled form, or e below -1,000,000,000   (divide)
  *
- * 7 in plain words: (xm/sx)^2 + (ym/sy)^2 + (R/sy)^2, which is 2t, is above 128; t is rounded up first. 9: `kind 4` is the record of a script that asks
- * for begin_conjunction. 23: too few terms are added for the bound of those left out; a read needs N of at least 2M - 2. 10: the scaled form is that of jinthuol_scaled
- * below. Every end and every quotient has it. No end of a read has so low an e; a quotient's e is at most 32 below its number's. README.md has examples.
+ * 7 in plain words: (xm/sx)^2 + (ym/sy)^2 + (R/sy)^2, which is 2t, is above 128; t is rounded up first. 11: test 23 would refuse a read at every order up to
+ * 1,024, the largest; an encounter that is begun can be read. 9: `kind 4` is the record of a script that asks for begin_conjunction. 23: too few terms are added for
+ * the bound of those left out; a read needs N of at least 2M - 2. 10: the scaled form is that of jinthuol_scaled below. Every end and every quotient has it. No end of
+ * a read has so low an e; a quotient's e is at most 32 below its number's. README.md has examples.
  *
  * What a caller sees to. No pointer may be null, also where its length is 0. C converts a number to the type of its parameter or field without a word:
  * test first that it fits.
@@ -55,7 +57,7 @@ extern "C" {
 #endif
 
 /* One more with each change of a struct or a function of this header, or of what a function answers. */
-#define JINTHUOL_VERSION 7
+#define JINTHUOL_VERSION 8
 
 /* The five inputs, in whole centimetres: combined radius R, larger standard deviation sx, smaller sy, mean miss xm and ym, along the principal axes of
  * the covariance in the encounter plane. */
@@ -134,12 +136,12 @@ uint32_t jinthuol_version(void);
 /* A session with no encounter begun. */
 jinthuol_session jinthuol_empty(void);
 
-/* Begins an encounter at order N = 1, with no object: reads answer 0 as the object number and the time. Refused as 3 to 7, and then the session is as it
- * was, with the earlier object number and time. */
+/* Begins an encounter at order N = 1, with no object: reads answer 0 as the object number and the time. Refused as 3 to 7 or 11, and then the session is as
+ * it was, with the earlier object number and time. */
 jinthuol_answer jinthuol_begin(jinthuol_session *session, jinthuol_encounter encounter);
 
-/* Begins an encounter of an object at order N = 1: reads answer the object number and the time too, until the next begin that is accepted. Refused as 3 to 7,
- * or as 9 where the object number is 0, and then the session is as it was, with the earlier object number and time. Any time is accepted. */
+/* Begins an encounter of an object at order N = 1: reads answer the object number and the time too, until the next begin that is accepted. Refused as 3 to 7, 11
+ * or 9, the last where the object number is 0, and then the session is as it was, with the earlier object number and time. Any time is accepted. */
 jinthuol_answer jinthuol_begin_conjunction(jinthuol_session *session, jinthuol_conjunction conjunction);
 
 /* Adds count terms. Refused as 21 or 22, and then the session is as it was. */

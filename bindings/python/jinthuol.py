@@ -80,7 +80,7 @@ from fractions import Fraction
 from typing import NamedTuple
 
 # JINTHUOL_VERSION of bindings/c/jinthuol.h.
-VERSION = 7
+VERSION = 8
 
 # The condition of each refusal. 1, 2 and 8 are in listings only.
 REFUSALS = {
@@ -94,8 +94,9 @@ REFUSALS = {
     8: "script file longer than 65,536 bytes",
     9: "kind 4: object number is 0",
     10: "divide: divisor 0, number not in the scaled form, or e below −1,000,000,000",
+    11: "begin: 2M above 1,026",
     21: "add or read with no encounter begun",
-    22: "add: N + count above 4,096",
+    22: "add: N + count above 1,024",
     23: "read: 2M above N + 2",
 }
 CLASSES = ("clear", "alert", "open")
@@ -421,7 +422,7 @@ class Session:
     def begin(self, encounter):
         """Begins an encounter at order N = 1, with no object: reads answer 0 as the object number and the time.
 
-        Refused as 3 to 7, and then the session is as it was, with the earlier object number and time.
+        Refused as 3 to 7 or 11, and then the session is as it was, with the earlier object number and time.
         """
         packed = struct.pack("=IIIii", *encounter)
         return LIBRARY.jinthuol_begin(self.kept, Inputs.from_buffer_copy(packed))
@@ -429,8 +430,8 @@ class Session:
     def begin_conjunction(self, conjunction):
         """Begins an encounter of an object at order N = 1: reads answer the object number and the time too.
 
-        Refused as 3 to 7, or as 9 where the object number is 0, and then the session is as it was, with the earlier
-        object number and time.
+        Refused as 3 to 7, 11 or 9, the last where the object number is 0, and then the session is as it was, with the
+        earlier object number and time.
         """
         encounter, number, time = conjunction
         packed = struct.pack("=IIIiiII", *encounter, number, time)

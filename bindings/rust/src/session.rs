@@ -20,14 +20,14 @@ impl Session {
     }
 
     /// Begins an encounter, with no object: reads answer 0 as the object number and the time. Gives the order N, 1.
-    /// Refused as 3 to 7, and then the session is as it was, with the earlier object number and time.
+    /// Refused as 3 to 7 or 11, and then the session is as it was, with the earlier object number and time.
     pub fn begin(&mut self, encounter: Encounter) -> Result<u32, Refusal> {
         Ok(accepted(ffi::jinthuol_begin(self, encounter))?.N)
     }
 
     /// Begins an encounter of an object: reads answer the object number and the time too. Gives the order N, 1. Refused
-    /// as 3 to 7, or as 9 where the object number is 0, and then the session is as it was, with the earlier object
-    /// number and time.
+    /// as 3 to 7, 11 or 9, the last where the object number is 0, and then the session is as it was, with the earlier
+    /// object number and time.
     pub fn begin_conjunction(&mut self, conjunction: Conjunction) -> Result<u32, Refusal> {
         Ok(accepted(ffi::jinthuol_begin_conjunction(self, conjunction))?.N)
     }

@@ -5,12 +5,16 @@ use jinthuol::{library_version, Answer, Class, Conjunction, Decimal, Encounter, 
 
 const HALF: Encounter = of(10, 10, 10, 0, 0);
 const FULL: Encounter = of(8, 1, 1, 8, 0);
+// M is 513; then t is 64, and M is 512.1.
+const LATEST: Encounter = of(18, 4, 3, 36, 9);
+const AT_64: Encounter = of(152, 28, 19, 224, 0);
 const TEST_1: Encounter = of(500, 5000, 100, 1000, 0);
 const ALFANO_3: Encounter = of(1500, 11425, 141, 15, -388);
 const ALFANO_5: Encounter = of(1000, 17781, 3, 212, -122);
 const LARGEST: u32 = 10_000_000;
 const PAST: u32 = LARGEST + 1;
 const MISS: i32 = 10_000_000;
+const LARGEST_ORDER: u16 = 1024;
 
 const fn of(R: u32, sx: u32, sy: u32, xm: i32, ym: i32) -> Encounter {
     Encounter { R, sx, sy, xm, ym }
@@ -68,11 +72,20 @@ fn begins() {
         (of(8, 1, 1, 8, 1), 7),
         (of(LARGEST, 1, 1, MISS, -MISS), 7),
         (ALFANO_5, 7),
+        (FULL, 11),
+        (of(8, 1, 1, -8, 0), 11),
+        (of(288, 53, 36, 424, 0), 11),
+        // The exact M is 513, then below it; the upper M is above it.
+        (of(36, 6, 4, -39, 8), 11),
+        (of(706784, 130077, 88348, 1040616, 0), 11),
+        // The upper M is 513.
+        (of(329688, 60676, 41211, -485408, 0), 0),
+        (LATEST, 0),
+        (AT_64, 0),
         (of(LARGEST, LARGEST, LARGEST, MISS, -MISS), 0),
         (of(7, 7, 7, 0, 0), 0),
         (of(1, LARGEST, 1, 0, 0), 0),
         (HALF, 0),
-        (FULL, 0),
     ] {
         // By both begins. The second refuses an object number of 0, where no earlier test refuses.
         tried(encounter, None, refusal);
@@ -134,7 +147,7 @@ fn exact_terms() {
             assert_eq!(session.add(u16::MAX), Err(Refusal(22)));
             assert_eq!(session.add(1), Ok(u32::from(N) + 1));
         }
-        assert_eq!(at(encounter, 4096).read().map(|a| a.exact_terms), Ok(counts[5]), "{encounter:?}");
+        assert_eq!(at(encounter, LARGEST_ORDER).read().map(|a| a.exact_terms), Ok(counts[5]), "{encounter:?}");
     }
     let mut session = at(five, 6);
     assert_eq!(session.begin(of(0, 1, 1, 0, 0)), Err(Refusal(3)));
@@ -147,7 +160,7 @@ fn exact_terms() {
 #[test]
 fn advice() {
     for (encounter, due) in [
-        // M is 1/2, 1, a little above 1, 2, 18.7, 256, a little above 256, and 1,056.
+        // M is 1/2, 1, a little above 1, 2, 18.7, 256, a little above 256, and 513.
         (HALF, Some(13)),
         (of(1, 1, 1, 1, 1), Some(13)),
         (of(1, 3, 1, -3, 1), Some(17)),
@@ -155,9 +168,9 @@ fn advice() {
         (TEST_1, Some(66)),
         (of(8, 2, 1, 14, 1), Some(708)),
         (of(144, 27, 18, 0, 66), None),
-        (FULL, None),
+        (LATEST, None),
     ] {
-        for N in [1, 2, 4096] {
+        for N in [1, 2, LARGEST_ORDER] {
             let session = at(encounter, N);
             assert_eq!(session.advise(), Ok(due), "{encounter:?} at {N}");
             assert_eq!(session, at(encounter, N), "{encounter:?} at {N}");
@@ -174,7 +187,7 @@ fn advice() {
 #[test]
 fn no_encounter_begun() {
     let mut session = Session::empty();
-    for count in [0, 1, 4095, u16::MAX] {
+    for count in [0, 1, LARGEST_ORDER - 1, u16::MAX] {
         assert_eq!(session.add(count), Err(Refusal(21)));
     }
     assert_eq!(session.read(), Err(Refusal(21)));
@@ -185,7 +198,7 @@ fn no_encounter_begun() {
 #[test]
 fn orders() {
     let mut session = at(HALF, 1);
-    for count in [4096, 4097, u16::MAX] {
+    for count in [LARGEST_ORDER, LARGEST_ORDER + 1, u16::MAX] {
         let before = session.clone();
         assert_eq!(session.add(count), Err(Refusal(22)));
         assert_eq!(session.read(), before.read());
@@ -193,10 +206,10 @@ fn orders() {
     }
     assert_eq!(session.add(0), Ok(1));
     assert_eq!(session, at(HALF, 1));
-    assert_eq!(session.add(4095), Ok(4096));
+    assert_eq!(session.add(1023), Ok(1024));
     assert_eq!(session.add(1), Err(Refusal(22)));
-    assert_eq!(session.add(0), Ok(4096));
-    assert_eq!(session.read().map(|a| a.N), Ok(4096));
+    assert_eq!(session.add(0), Ok(1024));
+    assert_eq!(session.read().map(|a| a.N), Ok(1024));
     // Terms in two adds are those of one.
     let mut session = at(TEST_1, 30);
     assert_eq!(session.add(71), Ok(101));
@@ -206,7 +219,7 @@ fn orders() {
 /// The least order that is read.
 #[test]
 fn test_23() {
-    for (encounter, least) in [(HALF, 1), (FULL, 2110), (TEST_1, 36), (ALFANO_3, 597)] {
+    for (encounter, least) in [(HALF, 1), (TEST_1, 36), (ALFANO_3, 597), (AT_64, 1023), (LATEST, 1024)] {
         if least > 1 {
             assert_eq!(at(encounter, least - 1).read(), Err(Refusal(23)), "{encounter:?}");
         }
@@ -237,9 +250,7 @@ fn brackets() {
     for (encounter, due) in at_threshold {
         assert_eq!(class(encounter, 1), Ok(due));
     }
-    for N in [2110, 4096] {
-        assert_eq!(at(FULL, N).read(), at(of(8, 1, 1, -8, 0), N).read());
-    }
+    assert_eq!(at(LATEST, LARGEST_ORDER).read(), at(of(18, 4, 3, -36, 9), LARGEST_ORDER).read());
 }
 
 #[test]
@@ -257,7 +268,8 @@ fn a_clone_is_a_session_of_its_own() {
 #[test]
 fn refusals_in_words() {
     assert_eq!(Refusal(7).to_string(), "refused 7: upper t above 64");
-    for number in [1, 2, 3, 4, 5, 6, 7, 8, 9, 10, 21, 22, 23] {
+    assert_eq!(Refusal(11).to_string(), "refused 11: begin: 2M above 1,026");
+    for number in [1, 2, 3, 4, 5, 6, 7, 8, 9, 10, 11, 21, 22, 23] {
         assert!(!Refusal(number).to_string().contains("no such"));
     }
     assert_eq!(Refusal(20).to_string(), "refused 20: no such refusal");

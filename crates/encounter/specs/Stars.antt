@@ -1,4 +1,4 @@
--- Document 01, 'Encounters on each edge': the cases marked ★, one table, as request #109 changes them; and beside them an encounter at test 11's limit, the exact
+-- Document 01, 'Encounters on each edge': the cases marked ★, one table, as request #109 changes them; and beside them an encounter at the limits of tests 11 and 22, the exact
 -- letters of one encounter with unequal sigmas and two misses, which no ★ encounter has, with some of its rounded numbers and its ends at N = 3; and the counts of
 -- request #105. `All stars` is one statement (claim `star-cases`).
 use mathlib.Core.Path.{_≡_}
@@ -14,7 +14,7 @@ use Rattle.exact.specs.Series.{u, b, zx, zy, g, h, X, Y, t, F, c, series, expon
 use Rattle.exact.specs.Steps.{side-letters, side-start, side-terms, M, d, tail-bound, lower-end, upper-end}
 use Rattle.encounter.specs.declared.state.Answer.{Answer}
 use Rattle.encounter.specs.Session.{empty, state, no-object}
-use Rattle.encounter.specs.Calls.{begins, reads, call}
+use Rattle.encounter.specs.Calls.{begins, adds, reads, call}
 
 -- a case: what is computed, and what the paper says that it is
 pub data Star : Type 0 where
@@ -33,7 +33,7 @@ abbrev pub All : List Star → Type 0
 All [] = Unit {0}
 All (s ∷ l) = Holds s × All l
 
--- (10, 10, 10, 0, 0), (8, 1, 1, 8, 0), (8, 1, 1, 8, 1), (8, 1, 1, −8, 0), (6, 10, 5, 7, −4), (131071, 131072, 131071, 0, 0) and (32, 4, 4, 16, 15)
+-- (10, 10, 10, 0, 0), (8, 1, 1, 8, 0), (8, 1, 1, 8, 1), (8, 1, 1, −8, 0), (6, 10, 5, 7, −4), (131071, 131072, 131071, 0, 0) and (18, 4, 3, 36, 9)
 abbrev pub E₁ : Encounter
 E₁ = record { R = 10; sx = 10; sy = 10; xm = pos 0; ym = pos 0 }
 
@@ -53,7 +53,7 @@ abbrev pub E₆ : Encounter
 E₆ = record { R = 131071; sx = 131072; sy = 131071; xm = pos 0; ym = pos 0 }
 
 abbrev pub E₇ : Encounter
-E₇ = record { R = 32; sx = 4; sy = 4; xm = pos 16; ym = pos 15 }
+E₇ = record { R = 18; sx = 4; sy = 3; xm = pos 36; ym = pos 9 }
 
 -- 1/2 and 1/8
 abbrev pub a-half : Scaled
@@ -110,11 +110,14 @@ stars =
     ∷ fraction-is (value (side-letters true E₂ .t)) (whole 64)
     ∷ number-is (call (begins E₂) empty .answer .refusal) 11
     ∷ fraction-is (value (M E₂)) (whole 1056)
-    -- request #109, (32, 4, 4, 16, 15): 2M = 1,026 is not above 1,026, so accepted; N = 1,023 gives 23, N = 1,024 is read
+    -- request #109, (18, 4, 3, 36, 9): 2M = 1,026 is not above 1,026, so accepted; N = 1,023 gives 23, N = 1,024 is read
     ∷ fraction-is (value (M E₇)) (whole 513)
     ∷ number-is (call (begins E₇) empty .answer .refusal) 0
     ∷ number-is (call reads (state (no-object E₇) 1023) .answer .refusal) 23
     ∷ number-is (call reads (state (no-object E₇) 1024) .answer .refusal) 0
+    -- request #109: N = 1 and add 1,023 is accepted, for 4,095 of document 01, which marks it with no ★; 1,024 gives 22
+    ∷ number-is (call (adds 1023) (state (no-object E₇) 1) .answer .refusal) 0
+    ∷ number-is (call (adds 1024) (state (no-object E₇) 1) .answer .refusal) 22
     -- ★ (8, 1, 1, 8, 1): 7.
     ∷ number-is (call (begins E₃) empty .answer .refusal) 7
     -- ★ xm = −8 in place of 8: the same answers.
