@@ -1,5 +1,5 @@
 use mathlib.Core.Path.{_≡_, refl, sym, _∙_, ap}
-use mathlib.Core.Bool.{Bool, true, not}
+use mathlib.Core.Bool.{Bool, true, false, not}
 use Prim.Native.Nat.{ℕ, _+_, _≤_}
 use native.Mathlib.Omega.{arith}
 use Rattle.exact.specs.Fraction.{whole, _⊗_, at-most, above}
@@ -8,14 +8,16 @@ use Rattle.exact.specs.declared.Encounter.{Encounter}
 use Rattle.exact.specs.Numbers.{largest-t, largest-order}
 use Rattle.exact.specs.declared.Scaled.{Scaled}
 use Rattle.exact.specs.declared.Traced.{Traced}
-use Rattle.exact.specs.Losses.{traced-letters}
-use Rattle.exact.specs.Steps.{LettersOf, side-letters, M}
+use Rattle.exact.specs.Arithmetic.{rounded}
+use Rattle.exact.specs.Losses.{letter-numbers, traced-letters}
+use Rattle.exact.specs.Steps.{LettersOf, side-letters, bound, M}
 use Rattle.exact.specs.Refusals.{refuses-7, refuses-11}
 use Rattle.exact.specs.Private.Ranges.{tests-3-to-6}
 use Rattle.exact.proofs.Exponents.{M-in}
 use Rattle.exact.proofs.Losses.{letters-number}
+use Rattle.encounter.specs.declared.state.Letters.{Letters}
 use Rattle.encounter.specs.declared.steps.losses.TracedLetters.{TracedLetters}
-use Rattle.encounter.specs.Private.Held.{way-letters}
+use Rattle.encounter.specs.Private.Held.{held-letters, step-letters, way-letters}
 use Rattle.encounter.proofs.steps.Opening.{letters-fine, numbers-fine, bound-is}
 use Rattle.encounter.proofs.calls.Answering.{begin-early, begin-7, begin-11, begin-taken, call-reached, passed-bounds, accepted}
 use Rattle.encounter.specs.Calls.{begins}
@@ -43,6 +45,17 @@ module _ (E : Encounter) {r x : Bool} (k : r ≡ x) where
 
 passes : (E : Encounter) {r : ℕ} → r ≡ tests-3-to-6 E 0 → r ≤ 0 → tests-3-to-6 E 0 ≡ 0
 passes E e l = sym e ∙ omega arith
+
+-- the encounter passes tests 3 to 7, and m is its M
+record Formed (E : Encounter) (m : Scaled) : Type 0 where
+  inputs : tests-3-to-6 E 0 ≡ 0
+  t-passes : refuses-7 E ≡ false
+  M-is : m ≡ M E
+
+formed : (E : Encounter) {l : TracedLetters} {ln : Letters} {m : Scaled} {r : Bool} {n : ℕ} → n ≡ tests-3-to-6 E 0 → n ≤ 0
+    → way-letters l ≡ traced-letters true E → r ≡ at-most (value (l .t .number)) (whole largest-t) → r ≡ true
+    → ln ≡ held-letters (letter-numbers (way-letters l)) → m ≡ bound (rounded true 32) (step-letters ln) → Formed E m
+formed E en nl el et t eln em = record { inputs = passes E en nl; t-passes = test-7 E t el et; M-is = bound-is E el eln em }
 
 test-inputs-requires : tie.Need-test-inputs-requires
 test-inputs-requires c κs = search needs
@@ -81,22 +94,20 @@ bound-requires c κs =
 
 passes-test-11-requires : tie.Need-passes-test-11-requires
 passes-test-11-requires c κs =
-    let n = c .before in
-    let l = n .before .before .before .before in
+    let k = c .before .before .before in
+    let l = k .before .before in
     let E = l .before .before .before .args .E in
-    rw (bound-is E (l .letters .ensures) (n .letter-numbers .ensures) (c .bound .ensures)) (M-in (passed-bounds E (passes E (l .before .before .test-inputs .ensures) (l .before .if1 .left))))
+    let f = formed E (l .before .before .test-inputs .ensures) (l .before .if1 .left) (l .letters .ensures) (k .before .passes-test-7 .ensures) (k .if2 .taken) (c .before .letter-numbers .ensures) (c .bound .ensures) in
+    rw (f .M-is) (M-in (passed-bounds E (f .inputs)))
 
 opened-requires : tie.Need-opened-requires
 opened-requires c κs =
     let m = c .before .before in
-    let n = m .before in
-    let k = n .before .before in
+    let k = m .before .before .before in
     let l = k .before .before in
     let E = l .before .before .before .args .E in
-    let p = passes E (l .before .before .test-inputs .ensures) (l .before .if1 .left) in
-    let t = test-7 E (k .if2 .taken) (l .letters .ensures) (k .before .passes-test-7 .ensures) in
-    let e = bound-is E (l .letters .ensures) (n .letter-numbers .ensures) (m .bound .ensures) in
-    (accepted E p t (test-11 E (c .if3 .taken) e (c .before .passes-test-11 .ensures)), n .before .letters2 .ensures, l .letters .ensures, e)
+    let f = formed E (l .before .before .test-inputs .ensures) (l .before .if1 .left) (l .letters .ensures) (k .before .passes-test-7 .ensures) (k .if2 .taken) (m .before .letter-numbers .ensures) (m .bound .ensures) in
+    (accepted E (f .inputs) (f .t-passes) (test-11 E (c .if3 .taken) (f .M-is) (c .before .passes-test-11 .ensures)), m .before .before .letters2 .ensures, l .letters .ensures, f .M-is)
 
 count-to-requires : tie.Need-count-to-requires
 count-to-requires c κs = search needs
@@ -109,44 +120,34 @@ refused-on-requires-3 c κs = search needs
 
 returns-2 : tie.Need-returns-2
 returns-2 c =
-    let o = c .before .before in
-    let m = o .before .before in
-    let n = m .before in
-    let k = n .before .before in
+    let m = c .before .before .before .before in
+    let k = m .before .before .before in
     let l = k .before .before in
     let z = l .before .before .before in
-    let E = z .args .E in
-    let p = passes E (l .before .before .test-inputs .ensures) (l .before .if1 .left) in
-    let t = test-7 E (k .if2 .taken) (l .letters .ensures) (k .before .passes-test-7 .ensures) in
-    let b = test-11 E (o .if3 .taken) (bound-is E (l .letters .ensures) (n .letter-numbers .ensures) (m .bound .ensures)) (o .before .passes-test-11 .ensures) in
-    let e = begin-taken E (z .args .s) p t b (c .count-to .ensures) (c .before .opened .ensures) in
-    (e, call-reached (begins E) (z .pre) e)
+    let f = formed (z .args .E) (l .before .before .test-inputs .ensures) (l .before .if1 .left) (l .letters .ensures) (k .before .passes-test-7 .ensures) (k .if2 .taken) (m .before .letter-numbers .ensures) (m .bound .ensures) in
+    let b = test-11 (z .args .E) (c .before .before .if3 .taken) (f .M-is) (c .before .before .before .passes-test-11 .ensures) in
+    let e = begin-taken (z .args .E) (z .args .s) (f .inputs) (f .t-passes) b (c .count-to .ensures) (c .before .opened .ensures) in
+    (e, call-reached (begins (z .args .E)) (z .pre) e)
 
 returns-3 : tie.Need-returns-3
 returns-3 c =
-    let o = c .before in
-    let m = o .before .before in
-    let n = m .before in
-    let k = n .before .before in
+    let m = c .before .before .before in
+    let k = m .before .before .before in
     let l = k .before .before in
     let z = l .before .before .before in
-    let E = z .args .E in
-    let p = passes E (l .before .before .test-inputs .ensures) (l .before .if1 .left) in
-    let t = test-7 E (k .if2 .taken) (l .letters .ensures) (k .before .passes-test-7 .ensures) in
-    let b = test-11 E (o .if3 .left) (bound-is E (l .letters .ensures) (n .letter-numbers .ensures) (m .bound .ensures)) (o .before .passes-test-11 .ensures) in
-    let e = c .refused-on2 .ensures ∙ begin-11 E (z .args .s) p t b refl in
-    (e, call-reached (begins E) (z .pre) e)
+    let f = formed (z .args .E) (l .before .before .test-inputs .ensures) (l .before .if1 .left) (l .letters .ensures) (k .before .passes-test-7 .ensures) (k .if2 .taken) (m .before .letter-numbers .ensures) (m .bound .ensures) in
+    let b = test-11 (z .args .E) (c .before .if3 .left) (f .M-is) (c .before .before .passes-test-11 .ensures) in
+    let e = c .refused-on2 .ensures ∙ begin-11 (z .args .E) (z .args .s) (f .inputs) (f .t-passes) b refl in
+    (e, call-reached (begins (z .args .E)) (z .pre) e)
 
 returns-4 : tie.Need-returns-4
 returns-4 c =
-    let k = c .before in
-    let l = k .before .before in
+    let l = c .before .before .before in
     let z = l .before .before .before in
-    let E = z .args .E in
-    let p = passes E (l .before .before .test-inputs .ensures) (l .before .if1 .left) in
-    let t = test-7 E (k .if2 .left) (l .letters .ensures) (k .before .passes-test-7 .ensures) in
-    let e = c .refused-on3 .ensures ∙ begin-7 E (z .args .s) p t refl in
-    (e, call-reached (begins E) (z .pre) e)
+    let p = passes (z .args .E) (l .before .before .test-inputs .ensures) (l .before .if1 .left) in
+    let t = test-7 (z .args .E) (c .before .if2 .left) (l .letters .ensures) (c .before .before .passes-test-7 .ensures) in
+    let e = c .refused-on3 .ensures ∙ begin-7 (z .args .E) (z .args .s) p t refl in
+    (e, call-reached (begins (z .args .E)) (z .pre) e)
 
 pub begin-spec : {M : Type 1} → statement M
 begin-spec =
