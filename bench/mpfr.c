@@ -132,7 +132,7 @@ static int far(int32_t z)
     return z < -10000000 || z > 10000000;
 }
 
-/* The upper letters and M are formed in a session of its own: a refused begin changes nothing. */
+/* The upper letters and M are formed in a session of their own: a refused begin changes nothing. */
 static steps_session tried;
 
 steps_answer steps_begin(steps_session *s, jinthuol_encounter E)

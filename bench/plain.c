@@ -101,7 +101,7 @@ INLINE i64 length(u64 k)
     return 64 - __builtin_clzll(k);
 }
 
-/* For k from 2 to 4,097, which is above LARGEST_ORDER + 1: the word is off by less than 2^13. */
+/* For k from 2 to LARGEST_ORDER + 1: the word is off by less than 2^13. */
 INLINE reciprocal of_short(u64 k)
 {
     i64 s = length(k - 1);

@@ -98,12 +98,17 @@ def beside_64(rng):
 
 
 def near_64(rng):
-    """Two encounters whose R is the last whole number with t at most 64, or about that, and the next one."""
-    sx, sy = sigmas(rng, LARGEST // 12)
-    xm, ym = rng.randint(0, min(LARGEST, 7 * sx)), rng.randint(0, 7 * sy)
-    R = math.isqrt(2 * LARGEST_T * sy * sy - xm * xm * sy * sy // (sx * sx) - ym * ym)
-    xm, ym = of_either_sign(rng, xm), of_either_sign(rng, ym)
-    return Encounter(R, sx, sy, xm, ym), Encounter(R + 1, sx, sy, xm, ym)
+    """Two encounters whose R is the last whole number with t at most 64, or about that, and the next one.
+
+    Test 11 does not refuse the first.
+    """
+    while True:
+        sx, sy = sigmas(rng, LARGEST // 12)
+        xm, ym = rng.randint(0, min(LARGEST, 7 * sx)), rng.randint(0, 7 * sy)
+        R = math.isqrt(2 * LARGEST_T * sy * sy - xm * xm * sy * sy // (sx * sx) - ym * ym)
+        xm, ym = of_either_sign(rng, xm), of_either_sign(rng, ym)
+        if refusal_of(R, sx, sy, xm, ym) != 11:
+            return Encounter(R, sx, sy, xm, ym), Encounter(R + 1, sx, sy, xm, ym)
 
 
 def at_limits(rng):

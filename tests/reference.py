@@ -18,8 +18,8 @@ LARGEST = 10_000_000
 LARGEST_T = 64
 # Request #109: "no order went above 1,024. That becomes the limit in place of 4,096, and 22 falls above it."
 LARGEST_N = 1024
-# 1,026 in the same request's test 11: test 23 refuses every read of an encounter whose 2M is above it.
-LARGEST_2M = LARGEST_N + 2
+# Request #109, test 11: "a begin whose 2M is above 1,026".
+LARGEST_2M = 1026
 # In bytes.
 LONGEST_SCRIPT = 65_536
 # The rounded exponential sums have the terms r(0) to r(255), and r(256) is the next one.

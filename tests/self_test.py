@@ -365,9 +365,9 @@ def sign(q):
 
 
 def of_test_11():
-    """Request #109 at its limit: where M is, without rounding and by the steps of each side, and what a begin answers.
+    """Request #109 at its limit: where M is, without rounding and by the steps of each side; of_calls makes the begins.
 
-    A test of the lower side's M, or of the exact M, would let begins pass that are refused here.
+    A test of the lower side's M, or of the exact M, would let begins pass that are refused there.
     """
     largest = LARGEST_2M // 2
     for inputs, side, *off, refusal in edges.AT_TEST_11:

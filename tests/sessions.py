@@ -159,7 +159,7 @@ def of_objects(rng):
     for tried in in_pieces(conjunctions, 24):
         calls = [call for one in tried for call in (one, add(2), READ)]
         yield [begin_conjunction(*SMALL, 11, 12), add(3), *calls]
-    for _ in range(3):
+    for _ in range(4):
         begins = [drawn_begin(rng, drawn.accepted(rng)) for _ in range(6)] + rng.choices(REFUSED, k=9)
         rng.shuffle(begins)
         yield [call for one in begins for call in (one, add(rng.randint(0, 3)), READ)]

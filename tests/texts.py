@@ -358,9 +358,13 @@ def of_how_many_terms():
         factorial *= N + 1
         ok = 2 * (N - 13) <= 3 * (N + 2) and (N - 13) ** N << 33 <= 3**N * factorial
         checks.check(ok, "orders", f"N = {N} for M = {N - 13}/3")
-    words = "take 1,024, the largest order: up to M = 372 it is enough too, by the same computation. Above, up to 513,"
-    found = words in text, [advice.is_enough(M, LARGEST_N) for M in (372, 373)], LARGEST_2M
-    same("README", words, found, (True, [True, False], 2 * 513))
+    words = "computed for every M up to 337, where it is 1,024, and not proved"
+    same("README", words, (words in text, 3 * 337 + 13), (True, LARGEST_N))
+    words = "take 1,024, the largest order: up to M = 372 it is enough too, by the same computation"
+    found = words in text, [advice.is_enough(M, LARGEST_N) for M in (372, 373)]
+    same("README", words, found, (True, [True, False]))
+    words = "M is at most 372 just where a read is accepted at 742 terms. Above, up to 513,"
+    same("README", words, (words in text, orders.least_for(372), LARGEST_2M), (True, 742, 2 * 513))
 
 
 def of_printed_ends():

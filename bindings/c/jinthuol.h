@@ -32,10 +32,10 @@
  *     23  read: 2M above N + 2                             (read)
  *     10  divide: divisor 0, number not in the scaled form, or e below -1,000,000,000   (divide)
  *
- * 7 in plain words: (xm/sx)^2 + (ym/sy)^2 + (R/sy)^2, which is 2t, is above 128; t is rounded up first. 11: test 23 would refuse a read at every order up to
- * 1,024, the largest; an encounter that is begun can be read. 9: `kind 4` is the record of a script that asks for begin_conjunction. 23: too few terms are added for
- * the bound of those left out; a read needs N of at least 2M - 2. 10: the scaled form is that of jinthuol_scaled below. Every end and every quotient has it. No end of
- * a read has so low an e; a quotient's e is at most 32 below its number's. README.md has examples.
+ * 7 in plain words: (xm/sx)^2 + (ym/sy)^2 + (R/sy)^2, which is 2t, is above 128; t is rounded up first. 11: the radius and the miss are both several standard
+ * deviations (README.md, 'The five inputs'); a read would be refused as 23 at every order up to 1,024, the largest. 9: `kind 4` is the record of a script that asks
+ * for begin_conjunction. 23: too few terms are added for the bound of those left out; a read needs N of at least 2M - 2. 10: the scaled form is that of jinthuol_scaled
+ * below. Every end and every quotient has it. No end of a read has so low an e; a quotient's e is at most 32 below its number's. README.md has examples.
  *
  * What a caller sees to. No pointer may be null, also where its length is 0. C converts a number to the type of its parameter or field without a word:
  * test first that it fits.

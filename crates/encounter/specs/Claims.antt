@@ -22,7 +22,7 @@ use Rattle.encounter.specs.declared.state.Session.{Session}
 use Rattle.encounter.specs.declared.state.Answer.{Answer}
 use Rattle.encounter.specs.declared.state.Class.{Class}
 use Rattle.encounter.specs.declared.state.Class.the-variants.{Clear, Alert}
-use Rattle.encounter.specs.Session.{state, falls-under, lower-decimal, upper-decimal}
+use Rattle.encounter.specs.Session.{state, conjunction-of, falls-under, lower-decimal, upper-decimal}
 use Rattle.encounter.specs.Calls.{begins, begins-conjunction, adds, reads, call, Reached}
 use Rattle.encounter.specs.Stars.{stars, All}
 
@@ -44,12 +44,12 @@ pub record Readable (s : Session) : Type 0 where
   pub reached : Reached s
   pub accepted : call reads s .answer .refusal ≡ 0
 
--- request #109: on from the session s, `count` terms lead to an order up to the largest at which a read is accepted
+-- request #109: on from the session s, `count` terms lead to an order up to the largest at which a read is accepted, of the same encounter, object number and time
 pub record ReadLater (s : Session) : Type 0 where
   pub count : ℕ
   pub in-limit : s .N + count ≤ largest-order
   pub order : call (adds count) s .session .N ≡ s .N + count
-  pub same : call (adds count) s .session .encounter ≡ s .encounter
+  pub same : conjunction-of (call (adds count) s .session) ≡ conjunction-of s
   pub readable : Readable (call (adds count) s .session)
 
 -- request #109: at each order up to the largest a read of the encounter is refused as 23, whatever its object number and its time
@@ -141,8 +141,9 @@ pub record Claims : Type 0 where
   pub same-ways : (E : Encounter) (n : ℕ) → term-lost false E n ≡ term-lost true E n
   -- the count of every accepted read
   pub exact-counts : {s : Session} → Readable s → CountedTerms (s .encounter) (s .N) (call reads s .answer .exact)
-  -- request #109: an encounter that is begun, whatever calls came before, can be read at some order up to the largest
+  -- request #109: "Encounters that could then never be read should be stopped at the start": one that is begun, whatever calls led to the session, can be read at some
+  -- order up to the largest
   pub begun-can-be-read : (s : Session) → Reached s → 0 < s .N → ReadLater s
-  -- "Encounters that could then never be read should be stopped at the start": one that a begin refuses as 11 could never be read
+  -- and no others: one that a begin refuses as 11 could never be read
   pub stopped-never-read : (E : Encounter) (s : Session) → call (begins E) s .answer .refusal ≡ 11 → NeverRead E
   pub stopped-conjunction-never-read : (C : Conjunction) (s : Session) → call (begins-conjunction C) s .answer .refusal ≡ 11 → NeverRead (C .encounter)

@@ -32,7 +32,7 @@ pub fractions-in : (up : Bool) {E : Encounter} → Bounds E → (InRange 32 177 
 unfolding rounded
 fractions-in up f = all-fractions (in-range up) f
 
--- M of an accepted encounter
+-- M of an encounter that tests 3 to 6 pass
 pub M-in : {E : Encounter} → Bounds E → InRange 32 400 (M E)
 unfolding M side-letters
 M-in f = bound-in (in-range true) _ (letters-in (in-range true) f)

@@ -13,7 +13,7 @@ largest-t = 64
 abbrev pub exponential-cut : ℕ
 exponential-cut = 256
 
--- tests 22 and 11: by request #109, in place of 4,096
+-- test 22, by request #109 in place of 4,096; and test 11, of that request
 abbrev pub largest-order : ℕ
 largest-order = 1024
 

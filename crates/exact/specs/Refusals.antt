@@ -69,7 +69,8 @@ module _ (E : Encounter) where
   unfoldable pub refuses-7 : Bool
   refuses-7 = above (value (side-letters true E .t)) (whole largest-t)
 
-  -- 11: begin: 2M above 1,026; by request #109, "after test 7 and before 9". 1,026 is N + 2 at the largest order: test 23 refuses a read there, and at each smaller order
+  -- 11: begin: 2M above 1,026; by request #109, "after test 7 and before 9". 1,026 is N + 2 at the largest order: where 2M is above it, test 23 refuses a read at that
+  -- order and at each smaller one
   unfoldable pub refuses-11 : Bool
   refuses-11 = twice-M-above E (largest-order + 2)
 

@@ -76,7 +76,7 @@ fn open_sides(E: Encounter, below: TracedLetters, above: TracedLetters) -> OpenS
     }
 }
 
-// From both sides' letters and M, which tests 7 and 11 needed.
+// From both sides' letters and M. The upper letters and M were formed for tests 7 and 11.
 pub fn opened(E: Encounter, below: TracedLetters, above: TracedLetters, M: Scaled) -> Session
     requires { ⌜ (Accepted E) × (way-letters below ≡ traced-letters false E) × (way-letters above ≡ traced-letters true E) × (M ≡ boundOf E) ⌝ }
     ensures { λ r. ⌜ r ≡ state (no-object E) 1 ⌝ }
