@@ -69,19 +69,18 @@ module _ (s : Session) (b : Begun s) where
   unfolding exponential-sum
   sum-fine up = powers-fine up (b .fine) (pred exponential-cut) (lit≤ tt) .sum
 
-  pub lower-sum-fine : InRange 32 largest-exponent (s .lower .terms .sum)
+  series-fine : (up : Bool) → InRange 32 largest-exponent (sum-to up E (s .N))
   unfolding sum-to
-  lower-sum-fine = rw lower-sum-is (terms-fine s b (pred (s .N)) (pred-high (s .N) (b .high)) false .sum)
+  series-fine up = terms-fine s b (pred (s .N)) (pred-high (s .N) (b .high)) up .sum
     where
       pred-high : (n : ℕ) → n ≤ largest-order → pred n ≤ largest-order
       pred-high n l = omega arith
 
+  pub lower-sum-fine : InRange 32 largest-exponent (s .lower .terms .sum)
+  lower-sum-fine = rw lower-sum-is (series-fine false)
+
   pub upper-sum-fine : InRange 32 largest-exponent (s .upper .terms .sum)
-  unfolding sum-to
-  upper-sum-fine = rw upper-sum-is (terms-fine s b (pred (s .N)) (pred-high (s .N) (b .high)) true .sum)
-    where
-      pred-high : (n : ℕ) → n ≤ largest-order → pred n ≤ largest-order
-      pred-high n l = omega arith
+  upper-sum-fine = rw upper-sum-is (series-fine true)
 
   pub lower-exponential-fine : InRange 32 largest-exponent (s .lower .exponential)
   lower-exponential-fine = rw lower-exponential-is (sum-fine false)

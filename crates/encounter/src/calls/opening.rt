@@ -3,7 +3,7 @@ ghost use mathlib.Core.Path.{_≡_};
 ghost use mathlib.Core.Bool.{true, false, not};
 ghost use Rattle.exact.specs.Private.Ranges.{Bounds};
 ghost use Rattle.exact.specs.Refusals.{Accepted};
-ghost use Rattle.exact.specs.Steps.{exponential-sum, r256 as r256Of, M as boundOf};
+ghost use Rattle.exact.specs.Steps.{exponential-sum, r256 as r256Of, M as MOf};
 ghost use Rattle.exact.specs.Losses.{traced-letters, traced-terms, term-lost, operand-lost, either-lost, lossless};
 ghost use Rattle.encounter.specs.Session.{side, state, no-object};
 ghost use Rattle.encounter.specs.Private.Held.{way-letters};
@@ -78,7 +78,7 @@ fn open_sides(E: Encounter, below: TracedLetters, above: TracedLetters) -> OpenS
 
 // From both sides' letters and M. The upper letters and M were formed for tests 7 and 11.
 pub fn opened(E: Encounter, below: TracedLetters, above: TracedLetters, M: Scaled) -> Session
-    requires { ⌜ (Accepted E) × (way-letters below ≡ traced-letters false E) × (way-letters above ≡ traced-letters true E) × (M ≡ boundOf E) ⌝ }
+    requires { ⌜ (Accepted E) × (way-letters below ≡ traced-letters false E) × (way-letters above ≡ traced-letters true E) × (M ≡ MOf E) ⌝ }
     ensures { λ r. ⌜ r ≡ state (no-object E) 1 ⌝ }
 {
     let sides = open_sides(E, below, above);
