@@ -32,9 +32,10 @@ module _ (up : Bool) (E : Encounter) where
   letters-are : {l : TracedLetters} → way-letters l ≡ traced-letters up E → letter-numbers (way-letters l) ≡ side-letters up E
   letters-are e = ap letter-numbers e ∙ letters-number up E
 
-  pub letters-fine : {l : TracedLetters} → Bounds E → way-letters l ≡ traced-letters up E → Letters-in (letter-numbers (way-letters l))
+  -- with the ranges of these
+  pub letters-fine : {l : TracedLetters} → Bounds E → way-letters l ≡ traced-letters up E → (way-letters l ≡ traced-letters up E) × Letters-in (letter-numbers (way-letters l))
   unfolding side-letters
-  letters-fine f e = subst Letters-in (sym (letters-are e)) (letters-in (in-range up) f)
+  letters-fine f e = (e, subst Letters-in (sym (letters-are e)) (letters-in (in-range up) f))
 
   pub start-fine : {c : Traced} → Bounds E → c ≡ start (traced up 32) E → InRange 32 177 (c .number)
   unfolding side-start
@@ -73,14 +74,14 @@ module _ (up : Bool) (E : Encounter) where
 
 -- ---- M and d(1)
 
+-- letters without their losses
+pub numbers-fine : {x : LettersOf Scaled} {ln : Letters} → ln ≡ held-letters x → Letters-in x → Letters-in (step-letters ln)
+numbers-fine e i = rw e i
+
 -- from the upper letters
 module _ (E : Encounter) {l : TracedLetters} (e : way-letters l ≡ traced-letters true E) {ln : Letters} (eln : ln ≡ held-letters (letter-numbers (way-letters l))) where
   numbers-are : step-letters ln ≡ side-letters true E
   numbers-are = ap step-letters eln ∙ letters-are true E e
-
-  pub numbers-fine : Bounds E → Letters-in (step-letters ln)
-  unfolding side-letters
-  numbers-fine f = subst Letters-in (sym numbers-are) (letters-in (in-range true) f)
 
   pub bound-is : {m : Scaled} → m ≡ bound (rounded true 32) (step-letters ln) → m ≡ M E
   unfolding M

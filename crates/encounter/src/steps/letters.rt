@@ -6,7 +6,7 @@ ghost use lib.IntN.{natAbs};
 ghost use Rattle.exact.specs.Fraction.{_over_};
 ghost use Rattle.exact.specs.Numbers.{largest-length};
 ghost use Rattle.exact.specs.Arithmetic.{rounded, traced};
-ghost use Rattle.exact.specs.Losses.{traced-letters};
+ghost use Rattle.exact.specs.Losses.{letter-numbers, traced-letters};
 ghost use Rattle.exact.specs.Private.Ranges.{InRange, Bounds, Letters-in};
 ghost use Rattle.exact.specs.Series.{u, b, zx, zy, g};
 ghost use Rattle.exact.specs.Steps.{bound as boundOf, start as startOf};
@@ -101,7 +101,7 @@ fn fractions(up: bool, E: Encounter) -> Parts
 
 pub fn letters(up: bool, E: Encounter) -> TracedLetters
     requires { ⌜ Bounds E ⌝ }
-    ensures { λ r. ⌜ way-letters r ≡ traced-letters up E ⌝ }
+    ensures { λ r. ⌜ (way-letters r ≡ traced-letters up E) × (Letters-in (letter-numbers (way-letters r))) ⌝ }
 {
     let f = fractions(up, E);
     let u = f.u;

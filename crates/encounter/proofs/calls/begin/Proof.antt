@@ -13,12 +13,13 @@ use Rattle.exact.specs.Losses.{letter-numbers, traced-letters}
 use Rattle.exact.specs.Steps.{LettersOf, side-letters, bound, M}
 use Rattle.exact.specs.Refusals.{refuses-7, refuses-11}
 use Rattle.exact.specs.Private.Ranges.{tests-3-to-6}
-use Rattle.exact.proofs.Exponents.{M-in}
+use Rattle.exact.proofs.Growth.{bound-in}
+use Rattle.exact.proofs.Exponents.{in-range}
 use Rattle.exact.proofs.Losses.{letters-number}
 use Rattle.encounter.specs.declared.state.Letters.{Letters}
 use Rattle.encounter.specs.declared.steps.losses.TracedLetters.{TracedLetters}
 use Rattle.encounter.specs.Private.Held.{held-letters, step-letters, way-letters}
-use Rattle.encounter.proofs.steps.Opening.{letters-fine, numbers-fine, bound-is}
+use Rattle.encounter.proofs.steps.Opening.{numbers-fine, bound-is}
 use Rattle.encounter.proofs.calls.Answering.{begin-early, begin-7, begin-11, begin-taken, call-reached, passed-bounds, accepted}
 use Rattle.encounter.specs.Calls.{begins}
 use borrow.Author.Needs.{needs}
@@ -73,9 +74,7 @@ letters-requires : tie.Need-letters-requires
 letters-requires c κs = let z = c .before .before in passed-bounds (z .args .E) (passes (z .args .E) (c .before .test-inputs .ensures) (c .if1 .left))
 
 passes-test-7-requires : tie.Need-passes-test-7-requires
-passes-test-7-requires c κs =
-    let E = c .before .before .before .args .E in
-    letters-fine true E (passed-bounds E (passes E (c .before .before .test-inputs .ensures) (c .before .if1 .left))) (c .letters .ensures) .t
+passes-test-7-requires c κs = c .letters .ensures .1 .t
 
 letters-requires-2 : tie.Need-letters-requires-2
 letters-requires-2 c κs =
@@ -87,18 +86,10 @@ letter-numbers-requires : tie.Need-letter-numbers-requires
 letter-numbers-requires c κs = search needs
 
 bound-requires : tie.Need-bound-requires
-bound-requires c κs =
-    let l = c .before .before .before .before in
-    let E = l .before .before .before .args .E in
-    numbers-fine E (l .letters .ensures) (c .letter-numbers .ensures) (passed-bounds E (passes E (l .before .before .test-inputs .ensures) (l .before .if1 .left)))
+bound-requires c κs = numbers-fine (c .letter-numbers .ensures) (search needs)
 
 passes-test-11-requires : tie.Need-passes-test-11-requires
-passes-test-11-requires c κs =
-    let k = c .before .before .before in
-    let l = k .before .before in
-    let E = l .before .before .before .args .E in
-    let f = formed E (l .before .before .test-inputs .ensures) (l .before .if1 .left) (l .letters .ensures) (k .before .passes-test-7 .ensures) (k .if2 .taken) (c .before .letter-numbers .ensures) (c .bound .ensures) in
-    rw (f .M-is) (M-in (passed-bounds E (f .inputs)))
+passes-test-11-requires c κs = rw (c .bound .ensures) (bound-in (in-range true) _ (numbers-fine (c .before .letter-numbers .ensures) (search needs)))
 
 opened-requires : tie.Need-opened-requires
 opened-requires c κs =
@@ -106,8 +97,8 @@ opened-requires c κs =
     let k = m .before .before .before in
     let l = k .before .before in
     let E = l .before .before .before .args .E in
-    let f = formed E (l .before .before .test-inputs .ensures) (l .before .if1 .left) (l .letters .ensures) (k .before .passes-test-7 .ensures) (k .if2 .taken) (m .before .letter-numbers .ensures) (m .bound .ensures) in
-    (accepted E (f .inputs) (f .t-passes) (test-11 E (c .if3 .taken) (f .M-is) (c .before .passes-test-11 .ensures)), m .before .before .letters2 .ensures, l .letters .ensures, f .M-is)
+    let f = formed E (l .before .before .test-inputs .ensures) (l .before .if1 .left) (l .letters .ensures .0) (k .before .passes-test-7 .ensures) (k .if2 .taken) (m .before .letter-numbers .ensures) (m .bound .ensures) in
+    (accepted E (f .inputs) (f .t-passes) (test-11 E (c .if3 .taken) (f .M-is) (c .before .passes-test-11 .ensures)), m .before .before .letters2 .ensures .0, l .letters .ensures .0, f .M-is)
 
 count-to-requires : tie.Need-count-to-requires
 count-to-requires c κs = search needs
@@ -124,7 +115,7 @@ returns-2 c =
     let k = m .before .before .before in
     let l = k .before .before in
     let z = l .before .before .before in
-    let f = formed (z .args .E) (l .before .before .test-inputs .ensures) (l .before .if1 .left) (l .letters .ensures) (k .before .passes-test-7 .ensures) (k .if2 .taken) (m .before .letter-numbers .ensures) (m .bound .ensures) in
+    let f = formed (z .args .E) (l .before .before .test-inputs .ensures) (l .before .if1 .left) (l .letters .ensures .0) (k .before .passes-test-7 .ensures) (k .if2 .taken) (m .before .letter-numbers .ensures) (m .bound .ensures) in
     let b = test-11 (z .args .E) (c .before .before .if3 .taken) (f .M-is) (c .before .before .before .passes-test-11 .ensures) in
     let e = begin-taken (z .args .E) (z .args .s) (f .inputs) (f .t-passes) b (c .count-to .ensures) (c .before .opened .ensures) in
     (e, call-reached (begins (z .args .E)) (z .pre) e)
@@ -135,7 +126,7 @@ returns-3 c =
     let k = m .before .before .before in
     let l = k .before .before in
     let z = l .before .before .before in
-    let f = formed (z .args .E) (l .before .before .test-inputs .ensures) (l .before .if1 .left) (l .letters .ensures) (k .before .passes-test-7 .ensures) (k .if2 .taken) (m .before .letter-numbers .ensures) (m .bound .ensures) in
+    let f = formed (z .args .E) (l .before .before .test-inputs .ensures) (l .before .if1 .left) (l .letters .ensures .0) (k .before .passes-test-7 .ensures) (k .if2 .taken) (m .before .letter-numbers .ensures) (m .bound .ensures) in
     let b = test-11 (z .args .E) (c .before .if3 .left) (f .M-is) (c .before .before .passes-test-11 .ensures) in
     let e = c .refused-on2 .ensures ∙ begin-11 (z .args .E) (z .args .s) (f .inputs) (f .t-passes) b refl in
     (e, call-reached (begins (z .args .E)) (z .pre) e)
@@ -145,7 +136,7 @@ returns-4 c =
     let l = c .before .before .before in
     let z = l .before .before .before in
     let p = passes (z .args .E) (l .before .before .test-inputs .ensures) (l .before .if1 .left) in
-    let t = test-7 (z .args .E) (c .before .if2 .left) (l .letters .ensures) (c .before .before .passes-test-7 .ensures) in
+    let t = test-7 (z .args .E) (c .before .if2 .left) (l .letters .ensures .0) (c .before .before .passes-test-7 .ensures) in
     let e = c .refused-on3 .ensures ∙ begin-7 (z .args .E) (z .args .s) p t refl in
     (e, call-reached (begins (z .args .E)) (z .pre) e)
 

@@ -9,7 +9,7 @@ start-requires c κs = search needs
 first-terms-requires : tie.Need-first-terms-requires
 first-terms-requires c κs =
     let z = c .before in
-    (letters-fine (z .args .up) (z .args .E) (z .pre .0) (z .pre .1) .u, start-fine (z .args .up) (z .args .E) (z .pre .0) (c .start .ensures))
+    (letters-fine (z .args .up) (z .args .E) (z .pre .0) (z .pre .1) .1 .u, start-fine (z .args .up) (z .args .E) (z .pre .0) (c .start .ensures))
 
 letter-numbers-requires : tie.Need-letter-numbers-requires
 letter-numbers-requires c κs = search needs

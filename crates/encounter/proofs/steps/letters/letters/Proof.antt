@@ -4,6 +4,7 @@ use Rattle.exact.specs.Steps.{letters}
 use Rattle.exact.proofs.Exponents.{fractions-in}
 use Rattle.exact.proofs.Ranges.{widen}
 use Rattle.encounter.proofs.steps.Tracing.{fraction-number}
+use Rattle.encounter.proofs.steps.Opening.{letters-fine}
 use borrow.Author.Needs.{needs}
 use Rattle.encounter.proofs.steps.letters.letters.Statement.{statement}
 use Rattle.encounter.proofs.steps.letters.letters.Tie as tie
@@ -46,8 +47,9 @@ three-requires c κs =
 returns : tie.Need-returns
 unfolding traced-letters letters
 returns c =
+    let z = c .before .before .before .before .before .before in
     let e = c .before .before .before .before .before .fractions .ensures in
-    rw (c .three .ensures, c .before .product3 .ensures, c .before .before .product2 .ensures, c .before .before .before .product .ensures, e .0, e .1, e .2, e .3, e .4)
+    letters-fine (z .args .up) (z .args .E) (z .pre) (rw (c .three .ensures, c .before .product3 .ensures, c .before .before .product2 .ensures, c .before .before .before .product .ensures, e .0, e .1, e .2, e .3, e .4))
 
 pub letters-spec : {M : Type 1} → statement M
 letters-spec =
