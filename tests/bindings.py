@@ -7,7 +7,8 @@ The folder holds the library; `rt staticlib jinthuol` writes it to target/static
 bindings/c/example.c, compiled as C and as C++; guard.c tries that no call writes past a session. The divisions of
 division.py go through quotients.c, compiled so too, and through bindings/python. The tests of bindings/rust are run.
 Scripts go through bindings/python and bindings/rust, and their records as calls through bindings/python, where every
-number of the session and its advice are compared too. What is built goes to target/bindings. Exits with 1 at the first difference.
+number of the session, its advice and its ends as doubles are compared too. The same calls go through doubles.c, compiled
+as C and as C++, for the ends as doubles. What is built goes to target/bindings. Exits with 1 at the first difference.
 """
 
 import itertools
@@ -19,9 +20,11 @@ import re
 import struct
 import subprocess
 import sys
+from typing import NamedTuple
 
 sys.dont_write_bytecode = True
 import division
+import doubles
 import drawn
 import edges
 import encounters
@@ -30,10 +33,12 @@ import options
 import orders
 import records
 from checks import shortened
+from doubles import Doubles, Plotted
 from encounters import AT_THRESHOLD, DOCUMENTS, EDGES, SMALL, THIN
 from options import ROOT
 from records import MOST_COUNT, READ
-from reference import LARGEST_N, REFUSALS, Session
+from reference import LARGEST_N, REFUSALS, Answer, Session
+from scaled import LEAST, LIMIT
 
 BINDINGS = ROOT / "bindings"
 BUILT = ROOT / "target/bindings"
@@ -77,7 +82,7 @@ def inputs_and_orders(rng):
         yield *encounter, 0
     for encounter, *_ in AT_THRESHOLD:
         yield *encounter, 1
-    for encounter, N, *_ in (*edges.AT_DECIMAL_EDGES, *edges.EXACT_TERMS):
+    for encounter, N, *_ in (*edges.AT_DECIMAL_EDGES, *edges.EXACT_TERMS, *edges.AS_DOUBLES):
         yield *encounter, N
     for encounter in encounters.at_limits():
         yield *encounter, rng.choice((0, 2, 5))
@@ -112,8 +117,25 @@ def as_double(m, e):
     return "%.17g" % math.ldexp(m, e) if -1074 <= e <= 992 else "none"
 
 
+def of_the_host(call, answer):
+    """What it prints for the plotting tool; of a refusal nothing, since the read's line has it."""
+    if answer.refusal:
+        return []
+    if call == "read_doubles":
+        _, *ends = answer
+        lower, upper = ("%.17g" % float(end) if end is not None else None for end in ends)
+        because = "unbounded, since the upper end is 1 or more"
+        return [f"as doubles: from {lower} to {upper}" if upper else f"as doubles: at least {lower}, {because}"]
+    if answer.record is None:
+        return ["no plot record"]
+    number, *of_doubles = answer.record
+    return [f"plot record: object {number}, lower %.17g, upper %.17g, difference %.17g" % tuple(map(float, of_doubles))]
+
+
 def lines_of(call, answer):
     """What the program prints of a call."""
+    if call in ("read_doubles", "read_plot_record"):
+        return of_the_host(call, answer)
     if answer.refusal:
         return [f"refused {answer.refusal}: {REFUSALS[answer.refusal].replace('−', '-')}"]
     if call == "advise":
@@ -144,6 +166,8 @@ def called(R, sx, sy, xm, ym, N, *of_object):
         N = advice.order
     yield "add", session.add(N - 1)
     yield "read", session.read()
+    yield "read_doubles", session.read_doubles()
+    yield "read_plot_record", session.read_plot_record()
 
 
 def fails(what, program, **given):
@@ -239,7 +263,7 @@ def of_divisions(rng, library):
     return len(tried)
 
 
-# Scripts, through Python and Rust.
+# Scripts, through Python and Rust; their calls through Python, and for the ends as doubles through C.
 
 
 def scripts(rng):
@@ -251,6 +275,12 @@ def scripts(rng):
     yield "an encounter and reads", edges.BEGIN_OBJECT + READ * 2000
     for refusal, record in edges.begins():
         yield f"a begin, {refusal}", edges.BEGIN_OBJECT + record + READ
+    for inputs, N, *_ in edges.AS_DOUBLES:
+        for begin in records.begin(*inputs), records.begin_conjunction(*inputs, edges.MOST_32, 3):
+            # The last term comes after a refused begin and a read.
+            first, last = records.add(N - 2) if N > 2 else b"", records.add(1) if N > 1 else b""
+            between = records.begin(*edges.REFUSED[0]) + READ
+            yield f"{tuple(inputs)} at {N}, kind {begin[0]}", begin + first + between + last + READ
     for n in range(200):
         yield f"drawn {n}", drawn.script(rng, rng.randrange(1, 25), 300)
     for n in range(40):
@@ -267,36 +297,125 @@ def arguments(record, python):
     return record.inputs
 
 
+class Made(NamedTuple):
+    """A call on the session that the call before left: its name, its line for doubles.c, and three answers after it."""
+
+    name: str
+    line: str
+    read: Answer
+    doubles: Doubles
+    plotted: Plotted
+
+
+def made_on(session, name, kind, inputs=()):
+    """The call, after which this is the session."""
+    line = " ".join(map(str, (kind, *inputs, 0, 0, 0, 0, 0, 0, 0)[:8]))
+    return Made(name, line, session.read(), session.read_doubles(), session.read_plot_record())
+
+
 def call_by_call(name, script, python):
     """The script's first records as calls from Python: every number of the answer, of the session and of its advice.
 
-    Gives how many.
+    The ends as doubles too, which are asked for first. Gives the calls.
     """
     found, due = python.Session.empty(), Session()
-    calls = 0
+    calls = [made_on(due, f"{name}, no call yet", 0)]
+    of_both(calls[0].name, found, calls[0], python)
     for record in itertools.islice(records.records(script), 100):
         if record.refusal:
             break
         a = getattr(found, record.kind.call)(*arguments(record, python))
+        expected = fields.answer_numbers(record.called(due))
+        what = f"{name}, {record.kind.call} {record.inputs} at {record.position}"
+        calls.append(made_on(due, what, script[record.position], record.inputs))
+        of_both(what, found, calls[-1], python)
         answer = [a.refusal, a.N, a.lower.m, a.lower.e, a.upper.m, a.upper.e, a.class_, a.object, a.time]
         advice = found.advise()
         numbers = [*answer, a.exact_terms, *found.kept.words, advice.refusal, advice.has_order, advice.order]
-        expected = fields.answer_numbers(record.called(due))
         # Python has the session's words unsigned.
         expected += [number % (1 << 32) for number in fields.session_numbers(due)] + fields.advice_numbers(due.advise())
         if numbers != expected:
             names = [field for (field, _), a, b in zip(fields.FIELDS, numbers, expected) if a != b]
-            what = f"from Python, {name}, {record.kind.call} {record.inputs} at {record.position}"
-            differs(f"{what}: {', '.join(names)}", numbers, expected)
-        calls += 1
+            differs(f"from Python, {what}: {', '.join(names)}", numbers, expected)
     return calls
 
 
+def bits(x):
+    """The bits of a float."""
+    return int.from_bytes(struct.pack(">d", x), "big")
+
+
+def of_both(what, session, due, python):
+    """The ends as doubles and the record from Python, and every field of the two structs that the library answers."""
+    answers = session.read_doubles(), session.read_plot_record()
+    unbounded = due.doubles.lower is not None and due.doubles.upper is None
+    # A float is compared as the fraction that it is.
+    if answers != (due.doubles, due.plotted) or answers[0].unbounded != unbounded:
+        differs(f"from Python, {what}", answers, (due.doubles, due.plotted))
+    a = python.LIBRARY.jinthuol_read_doubles(session.kept)
+    b = python.LIBRARY.jinthuol_read_plot_record(session.kept)
+    numbers = [a.refusal, a.tag, bits(a.lower), bits(a.upper), b.refusal, b.tag, b.record.object]
+    numbers += map(bits, (b.record.lower, b.record.upper, b.record.difference))
+    told(f"from Python, {what}", numbers, fields.host_numbers(due.doubles, due.plotted))
+
+
+def told(what, numbers, due):
+    """The numbers of both answers are those that are due; else the names of those that differ are printed."""
+    if numbers != due:
+        names = [name for name, a, b in zip(fields.HOST, numbers, due) if a != b]
+        differs(f"{what}: {', '.join(names)}", numbers, due)
+
+
+def of_doubles(library, made):
+    """The same calls through C and C++, where every number of both answers is printed, and C's own subtraction."""
+    shown = {what for one in made for what in shown_by(one)}
+    if not shown >= DUE:
+        sys.exit(f"bindings: of the ends as doubles no call has {sorted(DUE - shown, key=str)}")
+    for compiler in COMPILERS:
+        program = built(compiler, library, ROOT / "tests/doubles.c")
+        lines = output([program], input="".join(f"{one.line}\n" for one in made).encode()).decode().splitlines()
+        if len(lines) != len(made):
+            differs(f"calls by {compiler}", len(lines), len(made))
+        for line, one in zip(lines, made):
+            *numbers, subtracted = map(int, line.split())
+            due = fields.host_numbers(one.doubles, one.plotted)
+            told(f"by {compiler}, {one.name}", numbers, due)
+            # Where there is no record, it is 0 − 0.
+            if subtracted != due[-1]:
+                differs(f"{compiler} subtracts, {one.name}", subtracted, due[-1])
+
+
+def shown_by(one):
+    """What of request #108 a call has."""
+    refusal, lower, upper = one.doubles
+    if refusal:
+        yield "refused", refusal
+        return
+    if one.read.upper in NEXT_TO_1:
+        yield "upper end", one.read.upper
+    if upper is None:
+        yield "unbounded", one.read.object > 0
+        return
+    yield "both", 2 * upper >= 1
+    yield "difference", doubles.rounded(upper - lower)
+    if one.read.object in (0, edges.MOST_32):
+        yield "object", one.read.object
+
+
+# The last end below 1, 1, and the first one above it.
+NEXT_TO_1 = (LIMIT - 1, -32), (LEAST, -31), (LEAST + 1, -31)
+# What of the request the calls are to have.
+DUE = {("refused", 21), ("refused", 23), *(("upper end", end) for end in NEXT_TO_1)}
+DUE |= {(ends, which) for ends in ("unbounded", "both") for which in (False, True)}
+DUE |= {("difference", how) for how in ("exact", "down", "up", "even below", "even above")}
+DUE |= {("object", number) for number in (0, edges.MOST_32)}
+
+
 def of_scripts(rng, rust):
-    """Gives how many scripts and how many calls from Python were compared."""
+    """Gives how many scripts were compared, and the calls from Python."""
     import jinthuol as python
 
-    count = calls = 0
+    count, calls = 0, []
     for count, (name, script) in enumerate(scripts(rng), 1):
         file = BUILT / "script"
         file.write_bytes(script)
@@ -347,7 +466,8 @@ def of_rust():
     return passed, BUILT / "rust/release/examples/screen"
 
 
-FUNCTIONS = ("empty", "begin", "begin_conjunction", "add", "read", "advise", "to_decimal", "divide", "run")
+FUNCTIONS = ("empty", "begin", "begin_conjunction", "add", "read", "advise", "read_doubles", "read_plot_record")
+FUNCTIONS += ("to_decimal", "divide", "run")
 
 
 def of_another_version():
@@ -384,9 +504,10 @@ def main():
     compared = of_c(rng, library)
     tests, rust = of_rust()
     count, calls = of_scripts(rng, rust)
+    of_doubles(library, calls)
     divisions = of_divisions(rng, library)
     print(
-        f"bindings: {compared} encounters from C and C++, {divisions} divisions and {calls} calls from Python too, "
+        f"bindings: {compared} encounters from C and C++, {divisions} divisions and {len(calls)} calls from Python too, "
         f"{count} scripts from Python and Rust, {tests} tests of Rust, 0 disagreements"
     )
 

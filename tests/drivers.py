@@ -170,7 +170,7 @@ fn main() {
 # begin with its five inputs, add with its count in the first word, read, and begin_conjunction with its seven inputs.
 # Kinds 5, 6 and 7 are begin, add and begin_conjunction on a session that is lent; else it goes by value. Kind 0 stands for
 # an empty session in place of the one before. Writes every number of the answer, then of the session, then of what
-# `advise` answers on it, in the order of fields.py.
+# `advise`, `read_doubles` and `read_plot_record` answer on it, in the order of fields.py.
 SESSIONS = """\
 mod words;
 use crate::words::encounter_at;
@@ -189,6 +189,11 @@ use encounter::state::Side;
 use exact::Conjunction;
 use exact::Encounter;
 use exact::Scaled;
+use host::Doubles;
+use host::PlotRecord;
+use host::Plotted;
+use host::read_doubles;
+use host::read_plot_record;
 
 fn nothing() -> Answer {
     let zero = Scaled::ZERO;
@@ -293,15 +298,59 @@ fn put_advice(line: &mut [u8], at: usize, a: Advice) -> usize {
     }
 }
 
+fn put_double(line: &mut [u8], at: usize, x: f64) -> usize {
+    let bits = f64::to_bits(x);
+    let next = put(line, at, (bits / 4294967296) as u32);
+    put(line, next, (bits % 4294967296) as u32)
+}
+
+fn put_ends(line: &mut [u8], at: usize, refusal: u32, tag: u32, lower: f64, upper: f64) -> usize {
+    let mut next = put(line, at, refusal);
+    next = put(line, next, tag);
+    next = put_double(line, next, lower);
+    put_double(line, next, upper)
+}
+
+fn put_doubles(line: &mut [u8], at: usize, d: Doubles) -> usize {
+    match d {
+        Doubles::Both(lower, upper) => put_ends(line, at, 0, 2, lower, upper),
+        Doubles::Unbounded(lower) => put_ends(line, at, 0, 1, lower, 0.0),
+        Doubles::Refused(r) => put_ends(line, at, r, 0, 0.0, 0.0),
+    }
+}
+
+fn put_record(line: &mut [u8], at: usize, refusal: u32, tag: u32, r: PlotRecord) -> usize {
+    let mut next = put(line, at, refusal);
+    next = put(line, next, tag);
+    next = put(line, next, r.object);
+    next = put_double(line, next, r.lower);
+    next = put_double(line, next, r.upper);
+    put_double(line, next, r.difference)
+}
+
+fn no_record() -> PlotRecord {
+    PlotRecord { object: 0, lower: 0.0, upper: 0.0, difference: 0.0 }
+}
+
+fn put_plotted(line: &mut [u8], at: usize, p: Plotted) -> usize {
+    match p {
+        Plotted::Record(r) => put_record(line, at, 0, 2, r),
+        Plotted::Unbounded => put_record(line, at, 0, 1, no_record()),
+        Plotted::Refused(r) => put_record(line, at, r, 0, no_record()),
+    }
+}
+
 fn main() {
     let mut record = [0u8; 29];
-    let mut line = [10u8; 585];
+    let mut line = [10u8; 705];
     let mut s = Session::empty();
     while io::read_full(0, &mut record) == 29 {
         let answer = call(&mut s, &record);
         let mut next = put_answer(&mut line, 0, answer);
         next = put_session(&mut line, next, s);
-        put_advice(&mut line, next, advise(s));
+        next = put_advice(&mut line, next, advise(s));
+        next = put_doubles(&mut line, next, read_doubles(s));
+        put_plotted(&mut line, next, read_plot_record(s));
         io::write_all(1, &line);
     }
 }

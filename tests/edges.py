@@ -37,6 +37,9 @@ ANSWERS = {
     *(("add", answer) for answer in (0, 21, 22)),
     *(("read", answer) for answer in (0, 21, 23)),
     *(("advise", answer) for answer in (0, 21)),
+    # Request #108: "refuses as a read does".
+    *(("read_doubles", answer) for answer in (0, 21, 23)),
+    *(("read_plot_record", answer) for answer in (0, 21, 23)),
 }
 
 PAST = LARGEST + 1
@@ -347,6 +350,47 @@ AT_DECIMAL_EDGES = (
     ((1, 9448725, 885686, 9743762, 9975327), 1, "3741444192 -168 3741444777 -168 clear 9.999e-42 1.001e-41"),
     # t is less than 64 by about 10^-7, and the sigmas are as large as the misses then allow. No smaller end is known.
     ((1, LARGEST, 887356, 9999905, 9999995), 1, "3381150765 -168 3381151276 -168 clear 9.037e-42 9.038e-42"),
+)
+
+# Request #108: an encounter, an order, both ends, and how the subtraction of the doubles rounds (doubles.py has the
+# words), or None where the upper end is 1 or more. No read has equal ends: the lower end is divided by the greater
+# exponential, so every difference is above 0.
+AS_DOUBLES = (
+    # The upper end is 1 − 2^-32, 1, and the next one above 1: at an order where the tail bound is small, then by it.
+    ((5877919, 10**6, 10**6, 0, 0), 70, (4294966829, -32), (LIMIT - 1, -32), "exact"),
+    ((5877845, 10**6, 10**6, 0, 0), 70, (4294966829, -32), ONE, None),
+    ((5878031, 10**6, 10**6, 0, 0), 70, (4294966835, -32), (LEAST + 1, -31), None),
+    ((4778498, 1167591, 1167591, 190612, 51940), 19, (4291938013, -32), (LIMIT - 1, -32), "exact"),
+    ((7136391, 1648935, 1648935, 323971, 41207), 22, (4294020093, -32), ONE, None),
+    ((2078237, 444957, 444957, 23685, 10260), 25, (4294578130, -32), (LEAST + 1, -31), None),
+    # It is far above 1, with M at 513 or just below: the first is about 6 × 10^113.
+    ((32, 4, 4, 16, 15), LARGEST_N, (4263578795, -32), (2182407799, 347), None),
+    (LATEST, LARGEST_N, (4121517097, -53), (3586985175, 322), None),
+    (AT_64, LARGEST_N - 1, (2488688989, -39), (3065947822, 320), None),
+    # It is below 1/2, above it, and above 1.
+    (HALF, 1, (2605029163, -33), (3907544026, -33), "exact"),
+    ((20, 10, 10, 0, 0), 2, (2325042318, -32), (3875070780, -32), "exact"),
+    ((40, 10, 10, 0, 0), 14, (4219407956, -32), (2148470447, -31), None),
+    # The smallest ends and the smallest difference that are known; and the least R with the largest sigmas.
+    ((1, LARGEST, 887356, 9999905, 9999995), 1, (3381150765, -168), (3381151276, -168), "exact"),
+    (THIN, 1, (3022314188, -79), (3022314551, -79), "exact"),
+    # The upper e is higher by 1, 2, 11 and 21: then the difference has 53 bits at most.
+    ((1, 38, 2, 0, 13), 4, (3716176110, -68), (2469234515, -67), "exact"),
+    ((43932, 665630, 62584, 113480, 619913), 23, (4192510113, -103), (2174373262, -101), "exact"),
+    ((51, 40, 40, 0, 350), 62, (4270355103, -78), (2310688428, -67), "exact"),
+    ((37, 361, 30, 0, 333), 94, (4253442498, -112), (2669673631, -91), "exact"),
+    # It is higher by 22 and more, and the last bits of the lower m are 0, or they are cut off.
+    ((9, 5, 5, 0, 39), 100, (4212183972, -63), (2161445397, -40), "exact"),
+    ((60, 43, 43, 0, 429), 97, (4197345331, -91), (2290804916, -69), "even below"),
+    ((103815, 1194308, 68714, 1032197, 628803), 97, (3525292633, -84), (2193437226, -62), "even above"),
+    ((34, 23, 23, 19, 220), 101, (3351235198, -85), (2397315817, -62), "even below"),
+    ((15, 47, 10, 0, 95), 103, (4226602692, -86), (2289594750, -62), "even above"),
+    ((66, 286, 39, 19, 322), 100, (4043893011, -71), (2231502867, -48), "down"),
+    ((2, 20, 1, 1, 8), 132, (3980295324, -67), (2166779981, -33), "down"),
+    ((61, 424, 48, 70, 533), 100, (4050750993, -111), (2486479387, -88), "up"),
+    ((3, 33, 2, 19, 19), 103, (4094138409, -88), (2317352589, -64), "up"),
+    # The lower end is lost in the upper one, which is the difference.
+    ((37, 231, 20, 0, 216), 203, (4287069084, -99), (2377322388, -40), "up"),
 )
 
 

@@ -5,9 +5,11 @@
 
 `rt staticlib jinthuol` has written the library to target/staticlib. Importing is tried where the library is missing, of
 another version or no library, without gcc, twice, from other folders and where the shared object cannot be written.
-Floats and fractions are compared with exact ones, decimals with decimals.py. Exits with 1 where anything differs.
+Floats and fractions are compared with exact ones, decimals with decimals.py, ends as doubles with edges.py. Exits with 1
+where anything differs.
 """
 
+import ctypes
 import importlib
 import itertools
 import math
@@ -26,7 +28,7 @@ import ends
 import options
 import scaled
 from checks import Checks
-from edges import ADVISED, EXACT_TERMS
+from edges import ADVISED, AS_DOUBLES, EXACT_TERMS
 from encounters import AT_THRESHOLD, FULL, LATEST, TEST_1
 from options import ROOT
 from reference import REFUSALS
@@ -299,6 +301,50 @@ def of_advice(module):
         checks.check(found == (due or 0), "advice", f"{inputs}: {found}, due: {due}")
 
 
+def of_doubles(module):
+    """Request #108: the ends as floats and the record, in fields and in words, and that both calls keep the session."""
+    sizes = [ctypes.sizeof(struct) for struct in (module.DoublesOutput, module.RecordOutput, module.PlottedOutput)]
+    offsets = module.DoublesOutput.lower.offset, module.RecordOutput.lower.offset, module.PlottedOutput.record.offset
+    checks.check((sizes, offsets) == ([24, 32, 40], (8, 8, 8)), "doubles", f"the structs: {sizes} {offsets}")
+    session = module.Session.empty()
+    refused = "refused 21: add or read with no encounter begun"
+    with_words(session, module.Doubles(21, None, None), refused, module.Plotted(21, None), refused)
+    session.begin(module.Encounter(*TEST_1))
+    refused = "refused 23: read: 2M above N + 2"
+    with_words(session, module.Doubles(23, None, None), refused, module.Plotted(23, None), refused)
+    session.begin_conjunction(module.Conjunction(module.Encounter(*TEST_1), 25544, 1440))
+    session.add(54)
+    lower, upper = session.read().floats
+    both = "0.07647388530313037 to 0.07647389644989744"
+    record = module.PlotRecord(25544, lower, upper, upper - lower)
+    words = f"object 25544: {both}, difference 1.1146767064929008e-08"
+    with_words(session, module.Doubles(0, lower, upper), both, module.Plotted(0, record), words)
+    session.begin(module.Encounter(40, 10, 10, 0, 0))
+    session.add(13)
+    words = "at least 0.9824074702337384, unbounded", "no record: the upper end is 1 or more"
+    ends = module.Doubles(0, session.read().floats[0], None)
+    with_words(session, ends, words[0], module.Plotted(0, None), words[1])
+    for inputs, N, lower, upper, how in AS_DOUBLES:
+        session.begin(module.Encounter(*inputs))
+        session.add(N - 1)
+        kept = module.Kept.from_buffer_copy(session.kept)
+        exact = [scaled.value(scaled.Scaled(*end)) for end in (lower, upper)]
+        found, record = session.read_doubles(), session.read_plot_record().record
+        ok = found == (0, exact[0], exact[1] if how else None) and found.unbounded == (how is None)
+        ok = ok and (record is None) == (how is None) and session.kept == kept
+        if record and ok:
+            ok = record == (0, *exact, found.upper - found.lower) and type(record.difference) is float
+        checks.check(ok, "doubles", f"{inputs} at {N}: {found} {record}")
+
+
+def with_words(session, ends, said, plotted, said_of_it):
+    """Both answers on the session, and their words."""
+    found, record = session.read_doubles(), session.read_plot_record()
+    ok = (found, record, str(found), str(record)) == (ends, plotted, said, said_of_it)
+    ok = ok and found.unbounded == ("unbounded" in said) and (type(found), type(record)) == (type(ends), type(plotted))
+    checks.check(ok, "doubles", f"{found!r}, {record!r}: {found}, {record}")
+
+
 def main():
     arguments = options.parser("Tries bindings/python/jinthuol.py.").parse_args()
     if not LIBRARY.is_file():
@@ -313,6 +359,7 @@ def main():
     of_floats(module, random.Random(arguments.seed))
     of_decimals(module, random.Random(arguments.seed))
     of_answers(module)
+    of_doubles(module)
     checks.end()
 
 

@@ -55,9 +55,12 @@ def due_as_advised():
     read = orders.at_order(TEST_1, orders.advised(TEST_1)).read()
     listing = records.listing(records.begin(*TEST_1) + records.add(read.N - 1) + records.READ)
     begun, added, line = (line.split(" ", 1)[1] for line in listing.splitlines())
-    doubles = f"{as_float(read.lower):.17g} {as_float(read.upper):.17g}"
+    doubles = f"{as_float(read.lower):.17g}", f"{as_float(read.upper):.17g}"
     rounding = f"rounding starts at term {read.exact + 1} of {read.N}"
-    return [begun, f"advised {read.N}", added, f"{line} {doubles}", rounding]
+    apart = f"{as_float(read.upper) - as_float(read.lower):.17g}"
+    as_doubles = "as doubles: from {} to {}".format(*doubles)
+    record = "plot record: object 0, lower {}, upper {}, difference {}".format(*doubles, apart)
+    return [begun, f"advised {read.N}", added, f"{line} {' '.join(doubles)}", rounding, as_doubles, record]
 
 
 def of_c(lines):
@@ -78,13 +81,15 @@ def of_c(lines):
         due.append(f"advised {read.N}, read at {read.N}: about {ends}")
         thirds = [division.divided(up, Scaled(*end), 3) for up, end in ((False, read.lower), (True, read.upper))]
         due.append("a third: about {:.9g} to {:.9g}".format(*(as_float(third.quotient) for third in thirds)))
+        due.append(f"plot from {as_float(read.lower):.9g} to {as_float(read.upper):.9g}")
+        due.append(f"record of object 0, difference {as_float(read.upper) - as_float(read.lower):.9g}")
         main = "\n".join(code).replace(braced(TEST_1), braced(encounter))
         checks.check(braced(encounter) in main, "commands", f"no encounter {encounter} in the lines of C")
         source.write_text("\n".join(["#include <math.h>", "#include <stdio.h>", header, "int main(void) {", main, "}"]))
         prints(f"{compiler} -o {program}", [])
         prints(str(program), due)
-        told = [line for line in due[2:] if f"prints `{line}`" in section("From C and C++")]
-        checks.check(len(told) == (3 if encounter == TEST_1 else 0), "commands", f"what README says is printed: {told}")
+        told = [line for line in due[2:] if re.search(f"(prints|and) `{re.escape(line)}`", section("From C and C++"))]
+        checks.check(len(told) == (5 if encounter == TEST_1 else 0), "commands", f"what README says is printed: {told}")
 
 
 def of_advised_order():
@@ -195,7 +200,7 @@ def main():
     _, [command], listing = blocks(section("A script, byte by byte"))
     prints(command, listing)
     [archive, *compilers, command], due, [header], *code = blocks(section("From C and C++"))
-    checks.check(len(code) == 4, "commands", f"the parts of C: {len(code)}")
+    checks.check(len(code) == 5, "commands", f"the parts of C: {len(code)}")
     checks.check(archive == "rt staticlib jinthuol", "commands", f"the library: {archive}")
     command_with_object, command_as_advised = re.findall(r"`(echo .+? \| target/example)`", section("From C and C++"))
     programs = [compiler.split()[-1] for compiler in compilers]
@@ -203,7 +208,7 @@ def main():
         (ROOT / program).unlink(missing_ok=True)
         prints(compiler, [])
         prints(command.replace(programs[0], program), due)
-        due_with_object = [line.replace(" 0 0 ", " 27386 642 ") for line in due]
+        due_with_object = [line.replace(" 0 0 ", " 27386 642 ").replace("object 0,", "object 27386,") for line in due]
         prints(command_with_object.replace(programs[0], program), due_with_object)
         prints(command_as_advised.replace(programs[0], program), due_as_advised())
     checks.check(command.endswith(programs[0]) and len(set(programs)) == 2, "commands", f"the programs: {programs}")

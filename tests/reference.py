@@ -1,4 +1,4 @@
-"""The rounded steps, the session and the calls of document 01, as requests #101 to #106 and #109 change them;
+"""The rounded steps, the session and the calls of document 01, as requests #101 to #106, #108 and #109 change them;
 division.py has #107.
 
 A number of the steps is a triple (m, e, lost), as in rounded.py: so each number's way is what the steps say. An end is
@@ -9,6 +9,7 @@ import itertools
 from dataclasses import dataclass, field
 from typing import NamedTuple
 
+import doubles
 import scaled
 from advice import order_for
 from rounded import DOWN, ONE, UP, ZERO, above, at_least, doubled, halved
@@ -282,6 +283,13 @@ class Session:
         if self.N == 0:
             return Advice(21)
         return Advice(order=order_for(scaled.value(scaled.Scaled(*self.M[:2]))))
+
+    # Request #108: "The host call works on a session".
+    def read_doubles(self):
+        return doubles.of_read(self.read())
+
+    def read_plot_record(self):
+        return doubles.record_of(self.read())
 
     def tail_bound(self):
         """The upper side's 2d(N)."""

@@ -38,7 +38,7 @@ def repository(root, folder, program):
     (source / "main.rt").write_text(program)
     (source / "words.rt").write_text(WORDS)
     listed = (root / "crates.txt").read_text()
-    (folder / "crates.txt").write_text(listed + "\ndriver: advice division encounter exact io libc\n")
+    (folder / "crates.txt").write_text(listed + "\ndriver: advice division encounter exact host io libc\n")
 
 
 class Way(NamedTuple):

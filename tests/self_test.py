@@ -1,17 +1,19 @@
 #!/usr/bin/env python3
-"""Tests reference.py, rounded.py, decimals.py and records.py.
+"""Tests reference.py, rounded.py, decimals.py, doubles.py and records.py.
 
     python3 tests/self_test.py
 
 The arithmetic is compared with scaled.py, and every stored number with document 01's steps on scaled.py's numbers, with
 what is lost on its way. Wrong counts of exact terms are told from the right ones. The decimals are compared with
-request #103 by exact fractions, and its three promises are tested on them. The calls, the decimals and the listing are
-compared with the answers of edges.py, and so is the advice.
+request #103 by exact fractions, and its three promises are tested on them. The rounding of doubles is compared with
+Python's own subtraction. The calls, the decimals and the listing are compared with the answers of edges.py, and so are
+the advice and the ends as doubles.
 """
 
 import copy
 import math
 import random
+import struct
 import sys
 from fractions import Fraction
 from unittest import mock
@@ -20,6 +22,7 @@ sys.dont_write_bytecode = True
 import advice
 import brackets
 import decimals
+import doubles
 import drawn
 import edges
 import ends
@@ -418,6 +421,85 @@ def of_advice(rng):
             checks.check(ok, "advice", f"{inputs} at {session.N}: {found}, due {order}")
 
 
+# The ends as doubles.
+
+
+def bits_of(x):
+    """The bits of a float, as the machine has them."""
+    return int.from_bytes(struct.pack(">d", x), "big")
+
+
+def pairs(rng):
+    """Two floats, the second at most the first: numbers of 32 bits with one e or two, and any."""
+    for gap in [*range(60)] * 20:
+        e = rng.randrange(-170, -31)
+        yield math.ldexp(rng.randrange(LEAST, LIMIT), e), math.ldexp(rng.randrange(LEAST, LIMIT), e - gap)
+        # The last bits of the lower one are 0, so that some are in the middle of two floats.
+        low = rng.randrange(LEAST, LIMIT) >> gap % 32 << gap % 32
+        yield math.ldexp(rng.randrange(LEAST, LIMIT), e), math.ldexp(low, e - gap)
+    for _ in range(4000):
+        high = rng.randrange(0x7FF << 52)
+        low = max(0, high - rng.choice((0, 1, rng.randrange(1 << 52), rng.randrange(60 << 52))))
+        yield tuple(struct.unpack(">d", n.to_bytes(8, "big"))[0] for n in (high, low))
+
+
+def of_subtraction(rng):
+    """doubles.py on fractions and Python's floats agree: the nearest double of a difference, and its bits."""
+    ways = set()
+    for first, second in pairs(rng):
+        x, y = max(first, second), min(first, second)
+        exact = Fraction(x) - Fraction(y)
+        found = doubles.nearest(exact)
+        ways.add(doubles.rounded(exact))
+        ok = found == Fraction(x - y) and doubles.bits(found) == bits_of(x - y)
+        checks.check(ok and doubles.bits(Fraction(x)) == bits_of(x), "doubles", f"{x!r} - {y!r}: {found}")
+        # By the definition: neither double beside it is nearer, and where one is as near the last bit is 0.
+        beside = (math.nextafter(x - y, to) for to in (-math.inf, math.inf))
+        off = [abs(Fraction(z) - exact) - abs(found - exact) for z in beside if math.isfinite(z)]
+        ok = min(off) > 0 or (min(off) == 0 and bits_of(x - y) % 2 == 0)
+        checks.check(ok, "doubles", f"{x!r} - {y!r} is not the nearest: {found}")
+    checks.check(ways == {"exact", "down", "up", "even below", "even above"}, "doubles", f"only {ways}")
+    for q in Fraction(1, 3), Fraction((1 << 54) + 1), Fraction(1, 1 << 1075), Fraction(1 << 1024):
+        try:
+            checks.check(False, "doubles", f"the bits of {q}: {doubles.bits(q)}")
+        except ValueError:
+            pass
+
+
+def of_doubles(rng):
+    """Request #108: the cases of edges.py, with and without an object; refusals; and that the session is as it was."""
+    of_subtraction(rng)
+    for inputs, N, lower, upper, how in edges.AS_DOUBLES:
+        for number in 0, 1, edges.MOST_32:
+            session = orders.at_order(inputs, N)
+            session.object = number
+            kept = copy.deepcopy(session)
+            found, plotted = session.read_doubles(), session.read_plot_record()
+            checks.check(session == kept, "doubles", f"the session after the host calls, {inputs} at {N}")
+            exact = [Fraction(m * 2 ** max(e, 0), 2 ** max(-e, 0)) for m, e in (lower, upper)]
+            ok = found == (0, exact[0], exact[1] if exact[1] < 1 else None) and (how is None) == (exact[1] >= 1)
+            checks.check(ok, "doubles", f"{inputs} at {N}: {found}")
+            due = (0, None)
+            if how:
+                due = (0, (number, *exact, Fraction(float(exact[1]) - float(exact[0]))))
+                checks.check(doubles.rounded(exact[1] - exact[0]) == how, "doubles", f"{inputs} at {N}: not {how}")
+            checks.check(plotted == due, "doubles", f"{inputs} at {N}, object {number}: {plotted}")
+    hows = {how for *_, how in edges.AS_DOUBLES}
+    checks.check(hows == {None, "exact", "down", "up", "even below", "even above"}, "doubles", f"only {hows}")
+    empty = Session()
+    for session, refusal in (empty, 21), (orders.begun(LATEST), 23), (orders.at_order(LATEST, LARGEST_N - 1), 23):
+        found = session.read_doubles(), session.read_plot_record()
+        checks.check(found == ((refusal, None, None), (refusal, None)), "doubles", f"{refusal} is due: {found}")
+    # No read has equal ends, and no end is too small or too large for a double.
+    for inputs in [drawn.accepted(rng) for _ in range(200)]:
+        session = orders.begun(inputs)
+        session.add(min(orders.least_of(session) + rng.choice((0, 0, 1, 20)), LARGEST_N) - 1)
+        read, record = session.read(), session.read_plot_record().record
+        ends = [scaled.value(Scaled(*end)) for end in (read.lower, read.upper)]
+        ok = ends[0] < ends[1] and all(doubles.nearest(end) == end for end in ends)
+        checks.check(ok and (record is None or record.difference > 0), "doubles", f"{inputs}: {read}")
+
+
 # The script.
 
 
@@ -445,6 +527,7 @@ def main():
     of_calls(rng)
     of_test_11()
     of_advice(rng)
+    of_doubles(rng)
     of_scripts()
     checks.end()
 

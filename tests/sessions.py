@@ -1,12 +1,12 @@
 #!/usr/bin/env python3
-"""Compares the calls begin, begin_conjunction, add and read of crate `encounter`, and advise of crate `advice`, with
-reference.py.
+"""Compares the calls begin, begin_conjunction, add and read of crate `encounter`, advise of crate `advice`, and
+read_doubles and read_plot_record of crate `host`, with reference.py.
 
     python3 tests/sessions.py [--root FOLDER] [--seed N]
 
-After each call every field of the answer, every number of the session and what advise answers on it are compared.
-scratch.py runs a program that keeps a session and makes the calls; of the first three every other one is the call on a
-lent session. Short sequences of calls run interpreted and compiled; the long ones run compiled, and on the interpreter
+After each call every field of the answer, every number of the session and what advise, read_doubles and
+read_plot_record answer on it are compared. scratch.py runs a program that keeps a session and makes the calls; of the
+first three every other one is the call on a lent session. Short sequences of calls run interpreted and compiled; the long ones run compiled, and on the interpreter
 as far as it gets.
 """
 
@@ -29,6 +29,7 @@ import fields
 import orders
 import scratch
 from advice import LARGEST_M, ORDERS
+from doubles import Doubles
 from encounters import (
     ALFANO_3,
     ASTRIDE,
@@ -100,19 +101,20 @@ def record(call):
 
 
 class Made(NamedTuple):
-    """A call, what it answers, what advise answers on the session after it, and its line."""
+    """A call, what it answers, what advise answers on the session after it, its ends as doubles, and the call's line."""
 
     call: Call
     answer: Answer
     advice: Advice
+    doubles: Doubles
     line: str
 
 
 def made_on(session, call, answer):
     """The call, with its answer, after which this is the session."""
-    advice = session.advise()
+    advice, ends, plotted = session.advise(), session.read_doubles(), session.read_plot_record()
     numbers = fields.answer_numbers(answer) + fields.session_numbers(session) + fields.advice_numbers(advice)
-    return Made(call, answer, advice, drivers.line(numbers))
+    return Made(call, answer, advice, ends, drivers.line([*numbers, *fields.host_words(ends, plotted)]))
 
 
 def made(calls):
@@ -269,6 +271,17 @@ def of_advice(rng):
         yield [call for inputs in tried for call in (begin(*inputs), add(1), rng.choice(REFUSED), add(3))]
 
 
+# The orders that a run on the interpreter comes to for the ends as doubles.
+EARLY = 30
+
+
+def as_doubles(rng):
+    """Request #108: an upper end next to 1 and others, and one term later."""
+    for inputs, N, *_ in edges.AS_DOUBLES:
+        if N <= EARLY:
+            yield [begin(*inputs), add(N - 1), READ, add(1)]
+
+
 def of_documents(rng):
     for inputs in [*DOCUMENTS.values(), *EDGES.values()]:
         n = orders.least(inputs) if orders.begun(inputs) else 0
@@ -310,6 +323,7 @@ SHORT = [
     at_classes,
     of_exact_terms,
     of_advice,
+    as_doubles,
     of_documents,
     random_encounters,
     random_calls,
@@ -356,6 +370,13 @@ def at_advice(rng):
             yield [begin(*inputs), add(order - 2), READ, add(1), READ, add(rng.randint(1, LARGEST_N - order)), READ]
 
 
+def as_later_doubles(rng):
+    """As as_doubles, at later orders, and one term earlier."""
+    for inputs, N, *_ in edges.AS_DOUBLES:
+        if N > EARLY:
+            yield [begin_conjunction(*inputs, 1 + N, N), add(N - 2), add(1), READ]
+
+
 def more_random_calls(rng):
     for _ in range(20):
         yield [random_call(rng, 500) for _ in range(100)]
@@ -363,14 +384,14 @@ def more_random_calls(rng):
         yield [begin(*drawn.accepted(rng)), add(rng.randint(0, 100)), READ, add(rng.randint(0, LARGEST_N - 101)), READ]
 
 
-LONG = [to_largest, at_far_test_23, beside_whole_M, at_advice, more_random_calls]
+LONG = [to_largest, at_far_test_23, beside_whole_M, at_advice, as_later_doubles, more_random_calls]
 
 
 # The run.
 
 # About the interpreter's steps for a call and its line, for what an accepted begin does, and for a term; and how many more
 # for one of the first terms, before the first loss.
-CALL_STEPS, BEGIN_STEPS, TERM_STEPS, FIRST_STEPS = 18_000, 220_000, 5_500, 7_500
+CALL_STEPS, BEGIN_STEPS, TERM_STEPS, FIRST_STEPS = 28_000, 220_000, 5_500, 7_500
 FIRST_TERMS = 6
 RUN_STEPS = scratch.MOST_STEPS * 95 // 100
 
@@ -438,7 +459,7 @@ def sequences(parts, seed):
 
 
 def main():
-    options = scratch.arguments("Compares the calls of crates encounter and advice with reference.py.")
+    options = scratch.arguments("Compares the calls of crates encounter, advice and host with reference.py.")
     print("sessions: seed %d" % options.seed)
     calls = []
     with tempfile.TemporaryDirectory() as name:
@@ -457,6 +478,11 @@ def main():
     advised, due = {one.advice for one in calls}, {Advice(21), Advice(), *(Advice(order=order) for order in ORDERS)}
     if advised != due:
         sys.exit("sessions: advice that no session had, or that none may have: %s" % sorted(advised ^ due, key=str))
+    # Refused, unbounded, or both ends.
+    hosted = {(one.doubles.refusal, one.doubles.lower is not None, one.doubles.upper is not None) for one in calls}
+    due = {(21, False, False), (23, False, False), (0, True, False), (0, True, True)}
+    if hosted != due:
+        sys.exit("sessions: ends as doubles that no session had, or that none may have: %s" % sorted(hosted ^ due))
     begins = sum(one.call.kind in BEGINS and one.answer.refusal == 0 for one in calls)
     lent = sum(one.call.lent for one in calls)
     print("sessions: %d calls of %d encounters agree, %d of them on a lent session" % (len(calls), begins, lent))

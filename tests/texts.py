@@ -3,11 +3,12 @@
 
     python3 tests/texts.py
 
-The table of refusals in the definitions, README.md, docs/READING.md, the header, the C example, Rust and Python; the
-session's size and the version in each language; the advised orders in the header; the tables of examples/*.md, whose
-decimals are those of the listings, and what their texts say of orders, lines and bytes; the listing, the bytes and the
-decimals of README.md; the titles of the documents that are cited; the files, the names in them and the must-fail edits
-that docs/ names. Exits with 1 where anything differs.
+The table of refusals in the definitions, README.md, docs/READING.md, the header, the C example, Rust and Python, and
+the calls that the header names in it; the session's size and the version in each language; the advised orders and the
+ends as doubles in the header; the tables of examples/*.md, whose decimals are those of the listings, and what their
+texts say of orders, lines and bytes; the listing, the bytes and the decimals of README.md; the titles of the documents
+that are cited; the files, the names in them and the must-fail edits that docs/ names. Exits with 1 where anything
+differs.
 """
 
 import math
@@ -71,6 +72,16 @@ def of_refusals():
         same("refusals", path, found, due)
 
 
+def of_refused_calls():
+    """Behind each refusal of the header's table stand the calls that have it."""
+    header = "bindings/c/jinthuol.h"
+    for number, calls in found_in(header, r"^ \* +(\d+)  .*? +\(([\w, ]+)\)$"):
+        due = {call for call, refusal in edges.ANSWERS if refusal == int(number)}
+        if due:
+            found = calls.replace("both begins", "begin, begin_conjunction").split(", ")
+            same("refusals", f"{header}, the calls of {number}", sorted(found), sorted(due))
+
+
 # The session's size and the version.
 
 SIZES = (
@@ -105,6 +116,11 @@ def of_bindings():
     said = found_in(header, r"the advised order, from (\d+) to (\d+),")
     due = [(str(min(advice.ORDERS)), str(max(advice.ORDERS)))]
     same("advised orders", f"{header}, the least and the greatest", said, due)
+    record = orders.at_order(TEST_1, orders.advised(TEST_1)).read_plot_record().record
+    said = found_in(header, r"both ends as doubles: about (\S+) and (\S+)$")
+    same("doubles", f"{header}, both ends", said, [tuple(f"{float(end):.9g}" for end in (record.lower, record.upper))])
+    said = found_in(header, r"the double upper - lower: about (\S+)$")
+    same("doubles", f"{header}, the difference", said, [f"{float(record.difference):.3g}"])
 
 
 # Decimals.
@@ -638,6 +654,7 @@ def of_edits():
 def main():
     options.parser("Holds texts to document 01 and to the listings.").parse_args()
     of_refusals()
+    of_refused_calls()
     of_bindings()
     of_decimals()
     of_examples()

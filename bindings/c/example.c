@@ -1,6 +1,7 @@
 /* Brackets of encounters from standard input, one a line: R sx sy xm ym N, or R sx sy xm ym N object time. Begins the encounter, with
  * the object number and the time of closest approach where the line has them, adds N - 1 terms, reads, and prints the three answers in the words of a
- * listing; after a read both ends once more as doubles, and in a line of its own where rounding starts; with a refusal its condition.
+ * listing; after a read both ends once more as doubles; with a refusal its condition. A read has three lines more: where rounding starts, its ends as the plotting
+ * tool reads them, and the record that the tool stores.
  * An N of 0 stands for the advised order, which is printed too; where there is none, nothing is added or read.
  *
  *     rt staticlib jinthuol
@@ -121,6 +122,37 @@ static void print_read(jinthuol_answer a)
     print_exact_terms(a);
 }
 
+/* The ends for the plotting tool. Where they are refused, so is the read, whose line has it. */
+static void print_doubles(jinthuol_doubles a)
+{
+    switch (a.tag) {
+    case JINTHUOL_BOTH:
+        printf("as doubles: from %.17g to %.17g\n", a.lower, a.upper);
+        break;
+    case JINTHUOL_UNBOUNDED:
+        printf("as doubles: at least %.17g, unbounded, since the upper end is 1 or more\n", a.lower);
+        break;
+    default:
+        break;
+    }
+}
+
+/* The record that it stores. */
+static void print_plotted(jinthuol_plotted a)
+{
+    switch (a.tag) {
+    case JINTHUOL_BOTH:
+        printf("plot record: object %" PRIu32 ", lower %.17g, upper %.17g", a.record.object, a.record.lower, a.record.upper);
+        printf(", difference %.17g\n", a.record.difference);
+        break;
+    case JINTHUOL_UNBOUNDED:
+        printf("no plot record\n");
+        break;
+    default:
+        break;
+    }
+}
+
 static void print_advice(jinthuol_advice a)
 {
     if (a.refusal != 0) {
@@ -212,6 +244,8 @@ int main(void)
         }
         print_order("added", jinthuol_add(&session, (uint16_t)(x[N] - 1)));
         print_read(jinthuol_read(session));
+        print_doubles(jinthuol_read_doubles(session));
+        print_plotted(jinthuol_read_plot_record(session));
     }
     if (ferror(stdin)) {
         fprintf(stderr, "not all was read\n");

@@ -9,6 +9,8 @@
  *     jinthuol_to_decimal(false, answer.lower)                  7647 and 2: at least 7.647e-02
  *     jinthuol_to_decimal(true, answer.upper)                   7648 and 2: at most 7.648e-02
  *     jinthuol_divide(true, answer.upper, 3)                    0 and 3503497447 x 2^-37: a third of the upper end, rounded up
+ *     jinthuol_read_doubles(session)                            0, JINTHUOL_BOTH and both ends as doubles: about 0.0764738853 and 0.0764738968
+ *     jinthuol_read_plot_record(session)                        0, JINTHUOL_BOTH and object 0, both ends, and the double upper - lower: about 1.15e-08
  *     jinthuol_conjunction conjunction = {test_1, 25544, 1440}; object 25544, at minute 1440
  *     jinthuol_begin_conjunction(&session, conjunction);        N is 1; reads answer 25544 and 1440
  *
@@ -27,9 +29,9 @@
  *      7  upper t above 64                                 (both begins)
  *     11  begin: 2M above 1,026                            (both begins)
  *      9  kind 4: object number is 0                       (begin_conjunction)
- *     21  add or read with no encounter begun              (add, read, advise)
+ *     21  add or read with no encounter begun              (add, read, advise, read_doubles, read_plot_record)
  *     22  add: N + count above 1,024                       (add)
- *     23  read: 2M above N + 2                             (read)
+ *     23  read: 2M above N + 2                             (read, read_doubles, read_plot_record)
  *     10  divide: divisor 0, number not in the scaled form, or e below -1,000,000,000   (divide)
  *
  * 7 in plain words: (xm/sx)^2 + (ym/sy)^2 + (R/sy)^2, which is 2t, is above 128; t is rounded up first. 11: the radius and the miss are both several standard
@@ -57,7 +59,7 @@ extern "C" {
 #endif
 
 /* One more with each change of a struct or a function of this header, or of what a function answers. */
-#define JINTHUOL_VERSION 8
+#define JINTHUOL_VERSION 9
 
 /* The five inputs, in whole centimetres: combined radius R, larger standard deviation sx, smaller sy, mean miss xm and ym, along the principal axes of
  * the covariance in the encounter plane. */
@@ -124,6 +126,34 @@ typedef struct {
     jinthuol_scaled quotient;
 } jinthuol_divided;
 
+/* How many ends an answer in doubles has: none, since it is refused; the lower end alone, since the upper end is 1 or more; or both. */
+enum { JINTHUOL_REFUSED = 0, JINTHUOL_UNBOUNDED = 1, JINTHUOL_BOTH = 2 };
+
+/* The refusal's number, or 0; then one of the three above, and the ends. lower is there where tag is JINTHUOL_UNBOUNDED or JINTHUOL_BOTH, upper only where it is
+ * JINTHUOL_BOTH. Look at tag first: an end that is not there has 0 in its field, and that 0 is no end. */
+typedef struct {
+    uint32_t refusal;
+    uint32_t tag;
+    double lower;
+    double upper;
+} jinthuol_doubles;
+
+/* What a plotting tool stores: the object number, both ends, and their difference, which is the double upper - lower. */
+typedef struct {
+    uint32_t object;
+    double lower;
+    double upper;
+    double difference;
+} jinthuol_plot_record;
+
+/* The refusal's number, or 0; then one of the three above, and the record, which is there only where tag is JINTHUOL_BOTH. Look at tag first: elsewhere every field
+ * of the record has 0, and that is no record. */
+typedef struct {
+    uint32_t refusal;
+    uint32_t tag;
+    jinthuol_plot_record record;
+} jinthuol_plotted;
+
 /* The bytes of the buffer that are used, and whether they are the whole listing. */
 typedef struct {
     size_t used;
@@ -166,6 +196,15 @@ jinthuol_decimal jinthuol_to_decimal(bool up, jinthuol_scaled number);
  * take false for a `lower` and true for an `upper`, and the divided probability lies between. It takes any m and e: refused as 10 where divisor is 0, where the number
  * is not in the scaled form (m above 0 and below 2^31, or m = 0 with an e other than 0), or where e is below -1,000,000,000. */
 jinthuol_divided jinthuol_divide(bool up, jinthuol_scaled number, uint32_t divisor);
+
+/* The ends of a read as doubles, for a host that reads these: both ends, or the lower end alone where the upper end is 1 or more. Each double equals its end exactly.
+ * Refused as 21 or 23, as a read is, and then no double is there. It changes nothing. */
+jinthuol_doubles jinthuol_read_doubles(jinthuol_session session);
+
+/* The record of a read for a plotting tool: the object number, which is 0 where the encounter was begun by jinthuol_begin, both ends as doubles, and their difference,
+ * one subtraction of doubles, rounded to the nearest (a tie to the even one). There is no record where the upper end is 1 or more. Refused as 21 or 23,
+ * as a read is. It changes nothing. */
+jinthuol_plotted jinthuol_read_plot_record(jinthuol_session session);
 
 /* The listing of a script of records, on a session of its own; `0 refused 8` where the script has more than 65,536 bytes.
  * A line is written only while 150 bytes of the buffer are left; where fewer are left before the listing's end, it is cut between two lines

@@ -62,6 +62,26 @@ The lower end divided down and the upper end divided up, by a whole number, encl
     >>> print(session.read().upper.divided_up(0))
     refused 10: divide: divisor 0, number not in the scaled form, or e below −1,000,000,000
 
+A plotting tool reads doubles, which are Python's floats. Each equals its end exactly; a record has their difference:
+
+    >>> print(session.begin_conjunction(conjunction), session.add(54))
+    N = 1 N = 55
+    >>> print(session.read_doubles())
+    0.07647388530313037 to 0.07647389644989744
+    >>> session.read_plot_record().record
+    PlotRecord(object=25544, lower=0.07647388530313037, upper=0.07647389644989744, difference=1.1146767064929008e-08)
+
+Where the upper end is 1 or more, there is the lower end alone, and no record:
+
+    >>> print(session.begin(jinthuol.Encounter(R=40, sx=10, sy=10, xm=0, ym=0)), session.add(13))
+    N = 1 N = 14
+    >>> session.read_doubles()
+    Doubles(refusal=0, lower=0.9824074702337384, upper=None)
+    >>> session.read_doubles().unbounded
+    True
+    >>> print(session.read_plot_record())
+    no record: the upper end is 1 or more
+
 The library libjinthuol.a is in the folder that JINTHUOL_LIB_DIR names, else in target/staticlib of the repository,
 where `rt staticlib jinthuol` writes it. At the first import gcc links it into a shared object beside it,
 libjinthuol.so; later imports take that. Where there is no library, or it cannot be linked or is of another version,
@@ -75,12 +95,12 @@ import pathlib
 import struct
 import subprocess
 import sys
-from ctypes import POINTER, c_bool, c_char, c_char_p, c_int32, c_size_t, c_uint16, c_uint32
+from ctypes import POINTER, c_bool, c_char, c_char_p, c_double, c_int32, c_size_t, c_uint16, c_uint32
 from fractions import Fraction
-from typing import NamedTuple
+from typing import NamedTuple, Optional
 
 # JINTHUOL_VERSION of bindings/c/jinthuol.h.
-VERSION = 8
+VERSION = 9
 
 # The condition of each refusal. 1, 2 and 8 are in listings only.
 REFUSALS = {
@@ -100,6 +120,8 @@ REFUSALS = {
     23: "read: 2M above N + 2",
 }
 CLASSES = ("clear", "alert", "open")
+# JINTHUOL_UNBOUNDED and JINTHUOL_BOTH; the tag of a refusal is 0.
+UNBOUNDED, BOTH = 1, 2
 
 # A float above 0 is a whole number of 2^-1074.
 LEAST_EXPONENT = -1074
@@ -328,6 +350,79 @@ class Divided(Struct):
         return refused(self.refusal) if self.refusal else str(self.quotient)
 
 
+class Doubles(NamedTuple):
+    """The refusal's number, or 0; then both ends as floats, each the end exactly.
+
+    upper is None where the upper end is 1 or more, and both are None where it is refused.
+    """
+
+    refusal: int
+    lower: Optional[float]
+    upper: Optional[float]
+
+    @property
+    def unbounded(self):
+        """Whether there is the lower end alone, since the upper end is 1 or more."""
+        return self.lower is not None and self.upper is None
+
+    def __str__(self):
+        if self.refusal:
+            return refused(self.refusal)
+        return f"at least {self.lower}, unbounded" if self.unbounded else f"{self.lower} to {self.upper}"
+
+
+class PlotRecord(NamedTuple):
+    """What a plotting tool stores: the object number, or 0, both ends, and the float upper − lower."""
+
+    object: int
+    lower: float
+    upper: float
+    difference: float
+
+    def __str__(self):
+        return f"object {self.object}: {self.lower} to {self.upper}, difference {self.difference}"
+
+
+class Plotted(NamedTuple):
+    """The refusal's number, or 0; then the PlotRecord, or None.
+
+    There is none where the upper end is 1 or more, nor in a refusal.
+    """
+
+    refusal: int
+    record: Optional[PlotRecord]
+
+    def __str__(self):
+        if self.refusal:
+            return refused(self.refusal)
+        return str(self.record) if self.record else "no record: the upper end is 1 or more"
+
+
+class DoublesOutput(Struct):
+    """The ends as the library answers them: one that is not there has 0."""
+
+    _fields_ = [("refusal", c_uint32), ("tag", c_uint32), ("lower", c_double), ("upper", c_double)]
+
+    def doubles(self):
+        lower = self.lower if self.tag in (UNBOUNDED, BOTH) else None
+        return Doubles(self.refusal, lower, self.upper if self.tag == BOTH else None)
+
+
+class RecordOutput(Struct):
+    """A record as the library answers it."""
+
+    _fields_ = [("object", c_uint32), ("lower", c_double), ("upper", c_double), ("difference", c_double)]
+
+
+class PlottedOutput(Struct):
+    """The record as the library answers it: one that is not there has 0 in every field."""
+
+    _fields_ = [("refusal", c_uint32), ("tag", c_uint32), ("record", RecordOutput)]
+
+    def plotted(self):
+        return Plotted(self.refusal, PlotRecord(*self.record.values()) if self.tag == BOTH else None)
+
+
 class Kept(Struct):
     """What a session keeps. Only the library writes it."""
 
@@ -388,6 +483,8 @@ def load():
         ("add", Answer, POINTER(Kept), c_uint16),
         ("read", Answer, Kept),
         ("advise", Advice, Kept),
+        ("read_doubles", DoublesOutput, Kept),
+        ("read_plot_record", PlottedOutput, Kept),
         ("to_decimal", Decimal, c_bool, Scaled),
         ("divide", Divided, c_bool, Scaled, c_uint32),
         ("run", Listing, c_char_p, c_size_t, POINTER(c_char), c_size_t),
@@ -406,7 +503,7 @@ except ImportError as error:
 
 
 class Session:
-    """One encounter at a time. Each call gives its Answer, and advise an Advice.
+    """One encounter at a time. Each call gives its Answer, but for the last three: an Advice, a Doubles and a Plotted.
 
     A number that does not fit its type raises struct.error: ctypes alone would drop the bits that do not fit.
     """
@@ -456,6 +553,20 @@ class Session:
         order is advised where M is above 256. Refused as 21.
         """
         return LIBRARY.jinthuol_advise(self.kept)
+
+    def read_doubles(self):
+        """A Doubles: the ends of a read as floats, or the lower end alone where the upper end is 1 or more.
+
+        Refused as 21 or 23, as read is.
+        """
+        return LIBRARY.jinthuol_read_doubles(self.kept).doubles()
+
+    def read_plot_record(self):
+        """A Plotted: the record of a read for a plotting tool, or None where the upper end is 1 or more.
+
+        Refused as 21 or 23, as read is.
+        """
+        return LIBRARY.jinthuol_read_plot_record(self.kept).plotted()
 
 
 def run(script):

@@ -5,6 +5,7 @@
 
 use crate::answer::Scaled;
 use crate::decimal::Decimal;
+use crate::doubles::PlotRecord;
 use crate::script::Listing;
 use crate::session::{Conjunction, Encounter, Session};
 
@@ -37,7 +38,29 @@ pub struct Divided {
     pub quotient: Scaled,
 }
 
-// `safe`: the types of these nine say all that they trust, but that the library has this crate's
+/// The tag of an answer in doubles with the lower end alone. A refusal's is 0.
+pub const UNBOUNDED: u32 = 1;
+/// With both ends.
+pub const BOTH: u32 = 2;
+
+/// The refusal's number, or 0; then the tag, and the ends that are there, zero where one is not.
+#[repr(C)]
+pub struct Doubles {
+    pub refusal: u32,
+    pub tag: u32,
+    pub lower: f64,
+    pub upper: f64,
+}
+
+/// The refusal's number, or 0; then the tag, and the record where there is one.
+#[repr(C)]
+pub struct Plotted {
+    pub refusal: u32,
+    pub tag: u32,
+    pub record: PlotRecord,
+}
+
+// `safe`: the types of these eleven say all that they trust, but that the library has this crate's
 // version, which `Session::empty`, `run_into`, the decimals and the divisions test first. A reference is valid, and not shared while
 // it is lent. A `Session` came from these calls, since nothing else writes its private field.
 unsafe extern "C" {
@@ -61,6 +84,12 @@ unsafe extern "C" {
 
     /// Trusts that the session came from these calls.
     pub safe fn jinthuol_advise(session: Session) -> Advice;
+
+    /// Trusts that the session came from these calls.
+    pub safe fn jinthuol_read_doubles(session: Session) -> Doubles;
+
+    /// Trusts that the session came from these calls.
+    pub safe fn jinthuol_read_plot_record(session: Session) -> Plotted;
 
     /// Trusts nothing. Any m and e will do.
     pub safe fn jinthuol_to_decimal(up: bool, number: Scaled) -> Decimal;

@@ -81,6 +81,27 @@
 //! # Ok::<(), Refusal>(())
 //! ```
 //!
+//! A plotting tool reads doubles. Each equals its end exactly; where the upper end is 1 or more there is the lower end alone,
+//! and no record:
+//!
+//! ```
+//! use jinthuol::{Conjunction, Doubles, Encounter, PlotRecord, Refusal, Session};
+//!
+//! let mut session = Session::empty();
+//! let encounter = Encounter { R: 10, sx: 10, sy: 10, xm: 0, ym: 0 };
+//! session.begin_conjunction(Conjunction { encounter, object: 25544, time: 1440 })?;
+//! let (lower, upper) = (0.30326530837919563, 0.45489799533970654);
+//! assert_eq!(session.read_doubles()?, Doubles::Both { lower, upper });
+//! let record = PlotRecord { object: 25544, lower, upper, difference: upper - lower };
+//! assert_eq!(session.read_plot_record()?, Some(record));
+//! // N = 14 is the first order that is read here, and the upper end is about 1.0005 there.
+//! session.begin(Encounter { R: 40, sx: 10, sy: 10, xm: 0, ym: 0 })?;
+//! session.add(13)?;
+//! assert!(matches!(session.read_doubles()?, Doubles::Unbounded { .. }));
+//! assert_eq!(session.read_plot_record()?, None);
+//! # Ok::<(), Refusal>(())
+//! ```
+//!
 //! A session cannot be put together from numbers:
 //!
 //! ```compile_fail,E0451
@@ -94,6 +115,8 @@ mod answer;
 mod decimal;
 #[forbid(unsafe_code)]
 mod division;
+#[forbid(unsafe_code)]
+mod doubles;
 #[allow(unsafe_code)]
 mod ffi;
 #[forbid(unsafe_code)]
@@ -105,12 +128,13 @@ mod session;
 
 pub use answer::{Answer, Class, Scaled};
 pub use decimal::Decimal;
+pub use doubles::{Doubles, PlotRecord};
 pub use refusal::Refusal;
 pub use script::{run, run_into, Listing};
 pub use session::{Conjunction, Encounter, Session};
 
 /// The version of the library's functions that this crate is for: JINTHUOL_VERSION of bindings/c/jinthuol.h.
-pub const VERSION: u32 = 8;
+pub const VERSION: u32 = 9;
 
 /// The version of the library that this crate was linked with. Where it is not [`VERSION`], [`Session::empty`],
 /// [`run`], [`run_into`], and the decimals and divisions of a [`Scaled`] panic: the structs may be others.

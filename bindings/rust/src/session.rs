@@ -76,7 +76,7 @@ fn accepted(answer: ffi::Answer) -> Result<ffi::Answer, Refusal> {
     Ok(answer)
 }
 
-fn not_refused(number: u32) -> Result<(), Refusal> {
+pub(crate) fn not_refused(number: u32) -> Result<(), Refusal> {
     match number {
         0 => Ok(()),
         _ => Err(Refusal(number)),

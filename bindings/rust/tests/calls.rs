@@ -1,7 +1,10 @@
 //! The encounters and refusals of documents 01 and 02 through the calls on a session.
 #![allow(non_snake_case)]
 
-use jinthuol::{library_version, Answer, Class, Conjunction, Decimal, Encounter, Refusal, Scaled, Session, VERSION};
+use jinthuol::{
+    library_version, Answer, Class, Conjunction, Decimal, Doubles, Encounter, PlotRecord, Refusal, Scaled, Session,
+    VERSION,
+};
 
 const HALF: Encounter = of(10, 10, 10, 0, 0);
 const FULL: Encounter = of(8, 1, 1, 8, 0);
@@ -46,6 +49,7 @@ fn answer(N: u32, lower: (u32, i32), upper: (u32, i32), class: Class) -> Answer 
 fn sizes() {
     assert_eq!((size_of::<Session>(), align_of::<Session>()), (240, 4));
     assert_eq!((size_of::<Conjunction>(), align_of::<Conjunction>()), (28, 4));
+    assert_eq!((size_of::<PlotRecord>(), align_of::<PlotRecord>()), (32, 8));
 }
 
 #[test]
@@ -350,6 +354,95 @@ fn divisions() {
             "{number:?} / {divisor}"
         );
     }
+}
+
+/// m and e of an f64 from 2^-1000 to 2^1000, none where it is no m × 2^e with an m of 32 bits.
+fn taken_apart(x: f64) -> Option<Scaled> {
+    let bits = x.to_bits();
+    // 1.f × 2^(field − 1023), and of f the first 31 bits.
+    let (field, f) = ((bits >> 52) as i32, bits & ((1 << 52) - 1));
+    let m = (1 << 31) + (f >> 21) as u32;
+    ((23..=2023).contains(&field) && f % (1 << 21) == 0).then_some(Scaled { m, e: field - 1023 - 31 })
+}
+
+/// Request #108 on a session: what both calls answer is due by its read, and the session is as it was.
+fn as_doubles(session: &Session) -> Result<Option<PlotRecord>, Refusal> {
+    let before = session.clone();
+    let (doubles, record, read) = (session.read_doubles(), session.read_plot_record(), session.read());
+    assert_eq!(session, &before);
+    let read = match read {
+        Err(refusal) => {
+            assert_eq!((doubles, record), (Err(refusal), Err(refusal)));
+            return record;
+        }
+        Ok(read) => read,
+    };
+    // An m has 32 bits: the upper end is 1 or more where its e is above −32.
+    match doubles.unwrap() {
+        Doubles::Both { lower, upper } => {
+            assert_eq!((taken_apart(lower), taken_apart(upper)), (Some(read.lower), Some(read.upper)));
+            assert!(read.upper.e <= -32, "{read}");
+            let due = PlotRecord { object: read.object, lower, upper, difference: upper - lower };
+            assert_eq!(record, Ok(Some(due)));
+        }
+        Doubles::Unbounded { lower } => {
+            assert_eq!(taken_apart(lower), Some(read.lower));
+            assert!(read.upper.e > -32, "{read}");
+            assert_eq!(record, Ok(None));
+        }
+    }
+    record
+}
+
+/// Request #108 at its edges: the bits of the record's difference, none where the upper end is 1 or more.
+#[test]
+fn doubles() {
+    const S: u32 = 1_000_000;
+    for (encounter, N, due) in [
+        // The upper end is the last one below 1, it is 1, the next one, and far above.
+        (of(5877919, S, S, 0, 0), 70, Some(0x3e7d_2000_0000_0000)),
+        (of(5877845, S, S, 0, 0), 70, None),
+        (of(5878031, S, S, 0, 0), 70, None),
+        (of(32, 4, 4, 16, 15), LARGEST_ORDER, None),
+        (LATEST, LARGEST_ORDER, None),
+        // The smallest ends that are known.
+        (of(1, LARGEST, 887356, 9999905, 9999995), 1, Some(0x35ff_f000_0000_0000)),
+        // The difference has 53 bits; more, and is in the middle of two f64, twice; else below and above the exact one.
+        (of(37, 361, 30, 0, 333), 94, Some(0x3c33_e3fe_9659_9e3e)),
+        (of(60, 43, 43, 0, 429), 97, Some(0x3d91_115c_9968_cbe6)),
+        (of(15, 47, 10, 0, 95), 103, Some(0x3e01_0f0e_1042_6528)),
+        (of(66, 286, 39, 19, 322), 100, Some(0x3ee0_a040_c61d_c5bb)),
+        (of(3, 33, 2, 19, 19), 103, Some(0x3de1_43ff_b31f_0cfb)),
+        // The lower end is lost in the upper one.
+        (of(37, 231, 20, 0, 216), 203, Some(0x3f61_b661_f280_0000)),
+    ] {
+        for object in [1, 25544, u32::MAX] {
+            let of_object = as_doubles(&at_object(encounter, N, object, 7)).unwrap();
+            let without = as_doubles(&at(encounter, N)).unwrap();
+            assert_eq!(of_object.map(|r| r.difference.to_bits()), due, "{encounter:?}");
+            assert_eq!(of_object.map(|r| r.object), due.map(|_| object), "{encounter:?}");
+            assert_eq!(of_object.map(|r| PlotRecord { object: 0, ..r }), without, "{encounter:?}");
+        }
+    }
+    // Refused as a read is; then with each term more.
+    assert_eq!(as_doubles(&Session::empty()), Err(Refusal(21)));
+    for encounter in [HALF, TEST_1, of(40, 10, 10, 0, 0), ALFANO_3] {
+        let mut session = at(encounter, 1);
+        for _ in 1..LARGEST_ORDER {
+            assert_eq!(as_doubles(&session).is_err(), session.read() == Err(Refusal(23)));
+            session.add(1).unwrap();
+        }
+    }
+}
+
+#[test]
+fn doubles_in_words() {
+    let record = at_object(HALF, 1, 25544, 1440).read_plot_record().unwrap().unwrap();
+    let ends = "0.30326530837919563 to 0.45489799533970654";
+    assert_eq!(record.to_string(), format!("object 25544: {ends}, difference 0.1516326869605109"));
+    assert_eq!(at(HALF, 1).read_doubles().unwrap().to_string(), ends);
+    let unbounded = at(of(40, 10, 10, 0, 0), 14).read_doubles().unwrap();
+    assert_eq!(unbounded.to_string(), "at least 0.9824074702337384, unbounded");
 }
 
 /// The f64 of a number is the number, and there is none just where no f64 is.

@@ -1,6 +1,6 @@
 //! Listings: of examples/, by the calls, in buffers of every small size, and of the longest scripts.
 
-use jinthuol::{run, run_into, Conjunction, Encounter, Listing, Refusal, Session};
+use jinthuol::{run, run_into, Conjunction, Doubles, Encounter, Listing, Refusal, Session};
 use std::fs;
 use std::path::Path;
 
@@ -61,6 +61,12 @@ fn by_calls(script: &[u8]) -> String {
                 format!("read {} {ends} {} {decimals} {} {} {}", a.N, a.class, a.object, a.time, a.exact_terms)
             }),
         };
+        // Request #108: both answers in doubles go with the read at this place, and change nothing.
+        let (before, read) = (session.clone(), session.read());
+        let bounded = read.map(|a| a.upper.to_f64().is_some_and(|upper| upper < 1.0));
+        assert_eq!(session.read_doubles().map(|d| matches!(d, Doubles::Both { .. })), bounded);
+        assert_eq!(session.read_plot_record().map(|r| r.is_some()), bounded);
+        assert_eq!(session, before);
         let last = matches!(answer, Err(Refusal(1 | 2)));
         let outcome = answer.unwrap_or_else(|refusal| format!("refused {}", refusal.0));
         text += &format!("{position} {outcome}\n");

@@ -25,11 +25,14 @@ pub record Place : Type 0 where
   pub answer : Answer
   pub session : Session
 
+-- the place of a call on the session s, where the history is w
+abbrev pub place : Session → History → Call → Place
+place s w c = record { history = w; request = asked c; answer = call c s .answer; session = call c s .session }
+
 -- "Each call gets the session as the last one left it"
 unfoldable pub places : Session → History → List Call → List Place
 places s w [] = []
-places s w (c ∷ cs) =
-    record { history = w; request = asked c; answer = call c s .answer; session = call c s .session } ∷ places (call c s .session) (follow w (asked c)) cs
+places s w (c ∷ cs) = place s w c ∷ places (call c s .session) (follow w (asked c)) cs
 
 -- demand 3 for one answered bracket, where the encounter and the order are E and N
 pub record Encloses (E : Encounter) (N : ℕ) (a : Answer) : Type 0 where
@@ -62,7 +65,7 @@ pub record Claim (p : Place) : Type 0 where
       refusal (p .history) read ≡ 0 →
       (C : Conjunction) × (N : ℕ) × (p .history ≡ encounter-at C N) × Encloses (C .encounter) N (p .answer) × Named C (p .answer) × (p .answer .exact ≡ exact-terms (C .encounter) N)
 
-abbrev pub Every : (Place → Type 0) → List Place → Type 0
+abbrev pub Every : {A : Type 0} → (A → Type 0) → List A → Type 0
 Every P [] = Unit {0}
 Every P (p ∷ l) = P p × Every P l
 

@@ -43,26 +43,29 @@ one-is = record { eq = refl }
 
 -- ---- sums cut later are no less
 
-sum-longer : (f : ℕ → Frac) (n n′ : ℕ) → n ≤ n′ → sum f n ≼ sum f n′
+pub sum-longer : (f : ℕ → Frac) (n n′ : ℕ) → n ≤ n′ → sum f n ≼ sum f n′
 sum-longer f n n′ l = never-falls (sum f) (λ k. unfold sum in drop-last _ _) n n′ l
 
-one-pos : 0 < (whole 1) .num
+pub one-pos : 0 < (whole 1) .num
 unfolding whole
 one-pos = lit< tt
 
-pub exponential-pos : (E : Encounter) (K : ℕ) → 0 < K → 0 < (exponential E K) .num
+pub exponential-least : (E : Encounter) (K : ℕ) → 0 < K → whole 1 ≼ exponential E K
 unfolding exponential
-exponential-pos E K l = num-pos (≼-trans first (sum-longer (exponential-term (t E)) 1 K l)) one-pos
+exponential-least E K l = ≼-trans first (sum-longer (exponential-term (t E)) 1 K l)
   where
     first : whole 1 ≼ sum (exponential-term (t E)) 1
     first = unfold sum exponential-term _↑_ factorial _⊕_ _÷_ whole in record { le = omega arith }
+
+pub exponential-pos : (E : Encounter) (K : ℕ) → 0 < K → 0 < (exponential E K) .num
+exponential-pos E K l = num-pos (exponential-least E K l) one-pos
 
 -- g is at most 1, so h is at most u
 shrink : (u g : Frac) → g .num ≤ g .den → u ⊗ g ≼ u
 unfolding _⊗_
 shrink u g l = record { le = omega (arith, mul-le-mul-left (u .num * u .den) l) }
 
-h-le-u : (E : Encounter) → h E ≼ u E
+pub h-le-u : (E : Encounter) → h E ≼ u E
 unfolding h g _over_
 h-le-u E = shrink (u E) (g E) (omega arith)
 

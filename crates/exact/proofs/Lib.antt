@@ -18,6 +18,7 @@ pub mod Stopped
 pub mod Enclosure
 pub mod LowerEnds
 pub mod SmallestEnd
+pub mod LargestEnd
 pub mod Powers
 pub mod Closeness
 pub mod Growth

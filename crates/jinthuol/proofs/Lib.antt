@@ -1,4 +1,5 @@
 pub mod Advising
 pub mod Answering
+pub mod Telling
 pub mod Rows
 pub mod Running

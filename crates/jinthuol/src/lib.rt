@@ -1,15 +1,25 @@
-// The library for programs in other languages: the calls of crate encounter, the advised order, numbers in decimal, the division by a whole number and the listing of a
-// script, under names of C.
+// The library for programs in other languages: the calls of crate encounter, the advised order, ends as doubles, numbers in decimal, the division by a whole number and
+// the listing of a script, under names of C.
 ghost use mathlib.Core.Path.{_≡_};
 ghost use Rattle.exact.specs.Decimals.{decimal-of, Printed, Found, Near};
 ghost use Rattle.encounter.specs.Session.{empty as empty-session};
 ghost use Rattle.encounter.specs.Calls.{begins, begins-conjunction, adds, reads, call, Reached};
 ghost use Rattle.advice.specs.Advice.{advice as advised};
 ghost use Rattle.division.specs.Division.{divided, Says};
+ghost use Rattle.host.specs.Doubles.{doubles as ends-of};
+ghost use Rattle.host.specs.Plot.{plotted as plot-of};
 ghost use Rattle.jinthuol.specs.Advice.{advice-numbers, told};
 ghost use Rattle.jinthuol.specs.Answer.{class-number, numbered, called};
+ghost use Rattle.jinthuol.specs.Doubles.{doubles-numbers, doubles-told, plotted-numbers, plotted-told};
 ghost use Rattle.jinthuol.specs.Run.{RunOf};
 ghost use Rattle.jinthuol.specs.Version.{version};
+
+pub mod ends;
+
+use crate::ends::Doubles;
+use crate::ends::Plotted;
+use crate::ends::doubles_of;
+use crate::ends::plotted_of;
 use advice;
 use division::Divided;
 use division::divide;
@@ -23,11 +33,13 @@ use exact::Decimal;
 use exact::Encounter;
 use exact::LARGEST_SCRIPT;
 use exact::Scaled;
+use host::read_doubles;
+use host::read_plot_record;
 use listing::script::put_lines;
 use listing::script::put_too_long;
 
 // The version of the functions below and their structs; bindings/c/jinthuol.h has the same number.
-pub const VERSION: u32 = 8;
+pub const VERSION: u32 = 9;
 
 // An answer, with its class as a number.
 #[repr(C)]
@@ -205,6 +217,24 @@ pub extern "C" fn jinthuol_advise(session: Session) -> Advice
     ensures { λ r. ⌜ (r ≡ advice-numbers (advised session)) × (told r ≡ advised session) ⌝ }
 {
     advice_of(advice::advise(session))
+}
+
+// Both ends as doubles, or the lower end alone where the upper end is 1 or more.
+#[no_mangle]
+pub extern "C" fn jinthuol_read_doubles(session: Session) -> Doubles
+    requires { ⌜ Reached session ⌝ }
+    ensures { λ r. ⌜ (r ≡ doubles-numbers (ends-of session)) × (doubles-told r ≡ ends-of session) ⌝ }
+{
+    doubles_of(read_doubles(session))
+}
+
+// The record that the plotting tool stores, where both ends are there.
+#[no_mangle]
+pub extern "C" fn jinthuol_read_plot_record(session: Session) -> Plotted
+    requires { ⌜ Reached session ⌝ }
+    ensures { λ r. ⌜ (r ≡ plotted-numbers (plot-of session)) × (plotted-told r ≡ plot-of session) ⌝ }
+{
+    plotted_of(read_plot_record(session))
 }
 
 // A number in decimal, as a lower end or, where up is true, as an upper one.

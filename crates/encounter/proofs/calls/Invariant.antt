@@ -20,7 +20,7 @@ use Rattle.encounter.specs.declared.state.Called.{Called}
 use Rattle.encounter.specs.Session.{empty, state, counted, bracket}
 use Rattle.encounter.specs.Private.Held.{Begun}
 use Rattle.encounter.specs.Calls.{history-after, follow, session-of, history-of, outcome, Call, adds, asked, call, Reached, from-empty, after}
-use Rattle.encounter.specs.Enclosure.{Claim, Every, places, Encloses, Named, Demands}
+use Rattle.encounter.specs.Enclosure.{Claim, Every, place, places, Encloses, Named, Demands}
 use Rattle.encounter.proofs.calls.Answering.{by-cases, number}
 
 -- what an accepted begin says of its conjunction
@@ -88,10 +88,10 @@ enclosing (at {C} {N} h l u) z = unfold outcome refusal in rw z (
 pub by-history : {s : Session} {w : History} → Whole s w → (c : Call) → call c s ≡ outcome w (asked c) s
 by-history {s} h c = ap (λ (w : History). outcome w (asked c) s) (history-is h)
 
-keeps : {s : Session} {w : History} → Whole s w → (c : Call) → Whole (call c s .session) (follow w (asked c))
+pub keeps : {s : Session} {w : History} → Whole s w → (c : Call) → Whole (call c s .session) (follow w (asked c))
 keeps h c = rw (by-history h c) (kept h (asked c))
 
-claim : {s : Session} {w : History} → Whole s w → (c : Call) → Claim (record { history = w; request = asked c; answer = call c s .answer; session = call c s .session })
+pub claim : {s : Session} {w : History} → Whole s w → (c : Call) → Claim (place s w c)
 unfolding Read
 claim {s} {w} h c = record {
   number = rw (by-history h c) (number w (asked c) s);

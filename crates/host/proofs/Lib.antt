@@ -1,0 +1,10 @@
+pub mod Shifted
+pub mod Pattern
+pub mod Exactly
+pub mod Cases
+pub mod ReadCases
+pub mod Fitting
+pub mod Answering
+pub mod Difference
+pub mod Promises
+pub mod Listed

@@ -1,0 +1,4 @@
+pub mod Private
+pub mod Doubles
+pub mod Plot
+pub mod Lists
