@@ -10,6 +10,7 @@
 #include "contender.h"
 #include "decimals.h"
 #include "division.h"
+#include "host.h"
 #include <inttypes.h>
 #include <math.h>
 #include <stdio.h>
@@ -355,6 +356,63 @@ static void print_divisions(void)
     }
 }
 
+/* Whether both versions answer the same ends as doubles and the same record. */
+static int equal_doubles(jinthuol_session session)
+{
+    jinthuol_doubles a = by_hand_doubles(session), b = jinthuol_read_doubles(session);
+    jinthuol_plotted c = by_hand_plotted(session), d = jinthuol_read_plot_record(session);
+    return a.refusal == b.refusal && a.tag == b.tag && a.lower == b.lower && a.upper == b.upper && c.refusal == d.refusal && c.tag == d.tag &&
+           c.record.object == d.record.object && c.record.lower == d.record.lower && c.record.upper == d.record.upper &&
+           c.record.difference == d.record.difference;
+}
+
+/* Whether they are the same for the empty session, and for the cases and drawn encounters at every order up to theirs. */
+static int compare_doubles(const struct measured *list)
+{
+    for (int i = -1; i < CASE_COUNT + SCREENED; i++) {
+        jinthuol_session session = jinthuol_empty();
+        const struct measured *e = i < 0 ? NULL : i < CASE_COUNT ? &CASES[i] : &list[i - CASE_COUNT];
+        if (e)
+            jinthuol_begin_conjunction(&session, (jinthuol_conjunction){e->E, 25544, 1440});
+        for (uint32_t N = 1; N <= (e ? e->N : 1); N++) {
+            if (!equal_doubles(session)) {
+                printf("ends as doubles differ: %d at %" PRIu32 "\n", i, N);
+                return 0;
+            }
+            jinthuol_add(&session, 1);
+        }
+    }
+    return 1;
+}
+
+static volatile double double_sink;
+
+/* The ends as doubles and the record for each case, beside the read alone, and by hand. */
+static void print_doubles(void)
+{
+    enum { ALONE, ENDS, ENDS_BY_HAND, RECORD, RECORD_BY_HAND, WAYS };
+    static double found[WAYS][ROUNDS];
+    printf("\nA read, its ends as doubles and its record, proved, and both by hand with ldexp\n");
+    printf("  %-8s %9s %9s %9s %9s %9s  ends/read  record/read  ends/hand  record/hand\n", "", "read", "ends", "by hand", "record", "by hand");
+    for (int i = 0; i < CASE_COUNT; i++) {
+        jinthuol_session session = jinthuol_empty();
+        jinthuol_begin(&session, CASES[i].E);
+        jinthuol_add(&session, (uint16_t)(CASES[i].N - 1));
+        for (int round = 0; round < ROUNDS; round++) {
+            found[ALONE][round] = NANOSECONDS(1024, LEAST, sink = jinthuol_read(session).N);
+            found[ENDS][round] = NANOSECONDS(1024, LEAST, double_sink = jinthuol_read_doubles(session).lower);
+            found[ENDS_BY_HAND][round] = NANOSECONDS(1024, LEAST, double_sink = by_hand_doubles(session).lower);
+            found[RECORD][round] = NANOSECONDS(1024, LEAST, double_sink = jinthuol_read_plot_record(session).record.difference);
+            found[RECORD_BY_HAND][round] = NANOSECONDS(1024, LEAST, double_sink = by_hand_plotted(session).record.difference);
+        }
+        printf("  %-8s", CASES[i].name);
+        for (int way = 0; way < WAYS; way++)
+            printf(" %9.1f", median(found[way]));
+        printf("  %9.2f  %11.2f  %9.2f  %11.2f\n", ratio(found[ENDS], found[ALONE]), ratio(found[RECORD], found[ALONE]),
+               ratio(found[ENDS], found[ENDS_BY_HAND]), ratio(found[RECORD], found[RECORD_BY_HAND]));
+    }
+}
+
 /* Nanoseconds of a begin of kind 4 by the library. */
 static double time_conjunction(jinthuol_encounter E)
 {
@@ -406,12 +464,12 @@ static int table(void)
             return 1;
     fill_powers();
     fill_orders();
-    if (!compare_decimals() || !compare_advice(list) || !compare_divisions())
+    if (!compare_decimals() || !compare_advice(list) || !compare_divisions() || !compare_doubles(list))
         return 1;
     print_processor();
     printf("Nanoseconds and ratios, medians of %d rounds. A term is both sides and the tail term.\n", ROUNDS);
     printf("/same, /plain, /doubles: proved over it. mpfr/: MPFR over proved.\n");
-    printf("The ends, N and class of all contenders are equal, and so are the decimals, the advice and the divisions of both versions.\n");
+    printf("The ends, N and class of all contenders are equal, and so are the decimals, the advice, the divisions and the ends as doubles of both versions.\n");
     measure(list);
     for (int i = 0; i < CASE_COUNT; i++) {
         jinthuol_encounter E = CASES[i].E;
@@ -425,6 +483,7 @@ static int table(void)
     print_decimals();
     print_advice();
     print_divisions();
+    print_doubles();
     return 0;
 }
 

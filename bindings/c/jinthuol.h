@@ -138,7 +138,8 @@ typedef struct {
     double upper;
 } jinthuol_doubles;
 
-/* What a plotting tool stores: the object number, both ends, and their difference, which is the double upper - lower. */
+/* What a plotting tool stores: the object number, both ends, and their difference, which is the double upper - lower. Store the fields and not the struct's bytes:
+ * behind object there are four bytes of any content. */
 typedef struct {
     uint32_t object;
     double lower;

@@ -413,6 +413,9 @@ fn doubles() {
         (of(15, 47, 10, 0, 95), 103, Some(0x3e01_0f0e_1042_6528)),
         (of(66, 286, 39, 19, 322), 100, Some(0x3ee0_a040_c61d_c5bb)),
         (of(3, 33, 2, 19, 19), 103, Some(0x3de1_43ff_b31f_0cfb)),
+        // A subtraction that rounds to 64 bits first gives another f64.
+        (of(83, 190, 43, 0, 381), 153, Some(0x3f91_7b95_c9fe_f37f)),
+        (of(61, 183, 37, 0, 396), 166, Some(0x3dd4_9142_7c79_403b)),
         // The lower end is lost in the upper one.
         (of(37, 231, 20, 0, 216), 203, Some(0x3f61_b661_f280_0000)),
     ] {

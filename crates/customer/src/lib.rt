@@ -4,6 +4,7 @@ ghost use mathlib.Core.Path.{_≡_};
 ghost use Rattle.encounter.specs.Session.{empty as empty-session};
 ghost use Rattle.encounter.specs.Calls.{begins, begins-conjunction, adds, reads, call, Reached};
 ghost use Rattle.advice.specs.Advice.{advice};
+ghost use Rattle.host.specs.Plot.{plotted};
 ghost use Rattle.jinthuol.specs.Advice.{advice-numbers};
 ghost use Rattle.jinthuol.specs.Answer.{numbered, called};
 use advice::Advice;
@@ -21,6 +22,10 @@ use exact::Conjunction;
 use exact::Decimal;
 use exact::Encounter;
 use exact::Scaled;
+use host::Doubles;
+use host::Plotted;
+use host::read_doubles;
+use host::read_plot_record;
 use jinthuol::Listing;
 use jinthuol::jinthuol_add;
 use jinthuol::jinthuol_advise;
@@ -29,6 +34,8 @@ use jinthuol::jinthuol_begin_conjunction;
 use jinthuol::jinthuol_divide;
 use jinthuol::jinthuol_empty;
 use jinthuol::jinthuol_read;
+use jinthuol::jinthuol_read_doubles;
+use jinthuol::jinthuol_read_plot_record;
 use jinthuol::jinthuol_run;
 use jinthuol::jinthuol_to_decimal;
 use jinthuol::jinthuol_version;
@@ -69,6 +76,15 @@ fn by_value(
     jinthuol_advise(s);
     take_record(s, script, at);
     put_lines(script, at, s, out)
+}
+
+// The calls of a plotting tool.
+fn for_a_host(C: Conjunction, E: Encounter, count: u16, script: &[u8], at: usize) -> Doubles {
+    let s = used(C, E, count, script, at);
+    jinthuol_read_doubles(s);
+    jinthuol_read_plot_record(s);
+    read_plot_record(s);
+    read_doubles(s)
 }
 
 // A session that the customer owns, lent for one call.
@@ -115,6 +131,15 @@ pub fn advised_order(E: Encounter) -> Advice
 {
     let begun = begin_lent(Session::empty(), E);
     advise(begun.session)
+}
+
+// What the plotting tool stores after a begin with object and time, and an add.
+pub fn stored_record(C: Conjunction, count: u16) -> Plotted
+    ensures { λ r. ⌜ r ≡ plotted (call (adds count) (call (begins-conjunction C) empty-session .session) .session) ⌝ }
+{
+    let begun = begin_conjunction_lent(Session::empty(), C);
+    let added = add_lent(begun.session, count);
+    read_plot_record(added.session)
 }
 
 // The same from the exported calls.

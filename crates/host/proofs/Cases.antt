@@ -11,12 +11,13 @@ use lib.Signed.{ltZ}
 use borrow.Author.Tests.{lt-ltb, le-ltb, le-leb, lt-leb}
 use Rattle.exact.specs.declared.Scaled.{Scaled}
 use Rattle.exact.specs.Fraction.{whole, at-most}
-use Rattle.exact.specs.Scaled.{scaled, value, nought, Normal}
+use Rattle.exact.specs.Scaled.{scaled, value, nought, IsScaled}
+use Rattle.exact.proofs.Operations.{normal, none}
 use Rattle.exact.proofs.Fractions.{lt-or-le}
 
-pub zero-below : {x : Scaled} → x ≡ nought → false ≡ at-most (whole 1) (value x)
+pub zero-below : (x : Scaled) → IsScaled 32 x → x .m ≡ 0 → false ≡ at-most (whole 1) (value x)
 unfolding at-most whole value
-zero-below h = subst (λ (x : Scaled). false ≡ at-most (whole 1) (value x)) (sym h) refl
+zero-below x s z = subst (λ (x : Scaled). false ≡ at-most (whole 1) (value x)) (sym (none s z)) refl
 
 by-exponent : (m : ℕ) (e : ℤ) → 2 ^ 32 ≤ 2 * m → m < 2 ^ 32 → ltZ (negsuc 31) e ≡ at-most (whole 1) (value (scaled m e))
 unfolding at-most whole value
@@ -27,5 +28,5 @@ by-exponent m (negsuc n) l h =
     (λ b. le-ltb n 31 b ∙ sym (lt-leb (1 * 2 ^ suc n) (m * 1 * 1) (omega (arith, pow-mono {i = 32} {j = suc n} (omega arith)))))
     (lt-or-le n 31)
 
-pub one-or-more : (x : Scaled) → Normal 32 x → ltZ (negsuc 31) (x .e) ≡ at-most (whole 1) (value x)
-one-or-more x n = by-exponent (x .m) (x .e) (n .low) (n .high)
+pub one-or-more : (x : Scaled) → IsScaled 32 x → (x .m ≡ 0 → ⊥) → ltZ (negsuc 31) (x .e) ≡ at-most (whole 1) (value x)
+one-or-more x s some = let n = normal s some in by-exponent (x .m) (x .e) (n .low) (n .high)

@@ -8,8 +8,8 @@ use Rattle.host.specs.declared.Doubles.{Doubles as WithCases}
 use Rattle.host.specs.declared.Doubles.the-variants.{Both, Unbounded, Refused}
 use Rattle.host.specs.declared.Plotted.{Plotted as PlottedWithCases}
 use Rattle.host.specs.declared.Plotted.the-variants as plotted
-use Rattle.jinthuol.specs.declared.ends.Doubles.{Doubles}
-use Rattle.jinthuol.specs.declared.ends.Plotted.{Plotted}
+use Rattle.jinthuol.specs.declared.Doubles.{Doubles}
+use Rattle.jinthuol.specs.declared.Plotted.{Plotted}
 
 -- 0, for a double that is not there
 abbrev pub no-double : Float

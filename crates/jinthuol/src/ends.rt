@@ -1,30 +1,17 @@
 // Ends as doubles, and the record that the plotting tool stores, with their cases as numbers (request #108).
 ghost use mathlib.Core.Path.{_≡_};
 ghost use Rattle.jinthuol.specs.Doubles.{doubles-numbers, no-record, plotted-numbers};
+use crate::Doubles;
+use crate::Plotted;
 use host;
 use host::PlotRecord;
 
-// The tags: how many ends there are.
-pub const REFUSED: u32 = 0;
-pub const UNBOUNDED: u32 = 1;
-pub const BOTH: u32 = 2;
+// The tag: how many ends there are.
+const REFUSED: u32 = 0;
 
-// The refusal's number, or 0; the tag; then the ends, each 0 where it is not there.
-#[repr(C)]
-pub struct Doubles {
-    pub refusal: u32,
-    pub tag: u32,
-    pub lower: f64,
-    pub upper: f64,
-}
+const UNBOUNDED: u32 = 1;
 
-// The refusal's number, or 0; the tag; then the record, with 0 in every field where there is none.
-#[repr(C)]
-pub struct Plotted {
-    pub refusal: u32,
-    pub tag: u32,
-    pub plot: PlotRecord,
-}
+const BOTH: u32 = 2;
 
 pub fn doubles_of(d: host::Doubles) -> Doubles
     ensures { λ r. ⌜ r ≡ doubles-numbers d ⌝ }

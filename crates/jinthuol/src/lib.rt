@@ -14,10 +14,8 @@ ghost use Rattle.jinthuol.specs.Doubles.{doubles-numbers, doubles-told, 
 ghost use Rattle.jinthuol.specs.Run.{RunOf};
 ghost use Rattle.jinthuol.specs.Version.{version};
 
-pub mod ends;
+mod ends;
 
-use crate::ends::Doubles;
-use crate::ends::Plotted;
 use crate::ends::doubles_of;
 use crate::ends::plotted_of;
 use advice;
@@ -33,6 +31,7 @@ use exact::Decimal;
 use exact::Encounter;
 use exact::LARGEST_SCRIPT;
 use exact::Scaled;
+use host::PlotRecord;
 use host::read_doubles;
 use host::read_plot_record;
 use listing::script::put_lines;
@@ -59,6 +58,23 @@ pub struct Answer {
 pub struct Advice {
     pub refusal: u32,
     pub order: u32,
+}
+
+// The refusal's number, or 0; the tag; then the ends, each 0 where it is not there.
+#[repr(C)]
+pub struct Doubles {
+    pub refusal: u32,
+    pub tag: u32,
+    pub lower: f64,
+    pub upper: f64,
+}
+
+// The refusal's number, or 0; the tag; then the record, with 0 in every field where there is none.
+#[repr(C)]
+pub struct Plotted {
+    pub refusal: u32,
+    pub tag: u32,
+    pub plot: PlotRecord,
 }
 
 // The answer of a call, and the session after it.
