@@ -84,6 +84,10 @@ AT_TEST_11 = 16000, 2000, 2000, 8000, 7500
 ABOVE_TEST_11 = 16000, 1900, 1900, 8000, 7500
 SMALLER_SPHERE = 14000, 1900, 1900, 8000, 7500
 
+# Of no document: the upper end is above 1 at first, and far below it at the advised order; it is above 1 at every order.
+UNBOUNDED_AT_FIRST = 3000, 2000, 1000, 500, 8000
+ALWAYS_UNBOUNDED = 16000, 2000, 2000, 0, 0
+
 SCRIPTS = {
     "test-1": begin(*TEST_1) + reads_at(35, 36, 55, 101),
     "chan-1": begin(*CHAN_1) + reads_at(1, 5, 49),
@@ -160,6 +164,12 @@ SCRIPTS = {
     + begin_conjunction(SMALLER_SPHERE, 40116, 131)
     + reads_at(957, 1024),
     "equal-weights": b"".join(begin_conjunction(solution, 31140, 1015) + reads_at(13) for solution in SOLUTIONS),
+    "plot-records": begin_conjunction(TEST_1, 27386, 642)
+    + reads_at(20, 66)
+    + begin_conjunction(UNBOUNDED_AT_FIRST, 38752, 655)
+    + reads_at(300, 361, 424)
+    + begin_conjunction(ALWAYS_UNBOUNDED, 41330, 671)
+    + reads_at(101),
 }
 
 

@@ -1,7 +1,7 @@
 /* Makes calls on a session and prints, after each, what the two calls for a plotting tool answer on it. Reads lines of eight numbers: 0 for an empty session in place of
  * the one before, or the kind of a record, then R, sx, sy, xm, ym, the object number and the time, or the count of an add in place of R. Prints every field of both
- * answers, of a double its bits, and then the bits of the record's upper - lower as C subtracts them. Exits with 1 where one of the two calls changes the session, or answers
- * otherwise when it is made again. tests/bindings.py runs it. With other structs than are due it does not compile. */
+ * answers, of a double its bits, and then the bits of the record's upper - lower as C subtracts them. Exits with 1 where one of the two calls changes the session, or where
+ * the first answers otherwise when it is made again. tests/bindings.py runs it. With other structs than are due it does not compile. */
 #include <inttypes.h>
 #include <stddef.h>
 #include <stdio.h>

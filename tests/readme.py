@@ -1,6 +1,6 @@
 #!/usr/bin/env python3
-"""Runs the commands of README.md, examples/advised-order.md and examples/equal-weights.md as they stand there, and
-compares what they print.
+"""Runs the commands of README.md and of three examples, advised-order.md, equal-weights.md and plot-records.md, as they
+stand there, and compares what they print.
 
     python3 tests/readme.py
 
@@ -30,7 +30,7 @@ from encounters import ASTRIDE, DOCUMENTS, FULL, TEST_1
 from exact_series import Encounter
 from markdown import blocks, section
 from options import ROOT
-from reference import REFUSALS, refusal_of
+from reference import LONGEST_SCRIPT, REFUSALS, Session, refusal_of
 from scaled import Scaled
 
 # Seconds for one command.
@@ -178,6 +178,61 @@ def as_weighted(solutions):
     return lines, False
 
 
+def of_plot_records():
+    """examples/plot-records.py, as its text has it, and with each script of the examples, by the references."""
+    text = (ROOT / "examples/plot-records.md").read_text()
+    parts, words = blocks(text), "The exit status is 0 where every line is a record, and otherwise 1."
+    checks.check(len(parts) == 4 and words in text, "commands", f"plot-records.md: {len(parts)} parts, and {words}")
+    for [command], due in zip(parts[::2], parts[1::2], strict=True):
+        *_, path = command.split()
+        lines = as_plotted((ROOT / path).read_bytes())
+        checks.check(lines == due, "commands", f"{command}\n  text: {due}\n   due: {lines}")
+        is_plotted(command, due)
+    program = "python3 examples/plot-records.py"
+    found = set()
+    for path in sorted((ROOT / "examples").glob("*.script")):
+        lines = as_plotted(path.read_bytes())
+        is_plotted(f"{program} {path.relative_to(ROOT)}", lines)
+        found |= {" ".join(line.split()[1:3]) if "refused" in line else line.split()[1] for line in lines}
+    refusals = {"refused 1:", "refused 7:", "refused 9:", "refused 11:", "refused 21:", "refused 22:", "refused 23:"}
+    checks.check(found == {"record", "unbounded", *refusals}, "commands", f"in the examples: {sorted(found)}")
+    # A script that is empty, that is cut short, and that is of the greatest length or longer.
+    path = ROOT / "target/plotted.script"
+    test_1 = records.begin_conjunction(*TEST_1, (1 << 32) - 1, 0) + records.add(65) + records.READ
+    longest = test_1 + records.add(0) * ((LONGEST_SCRIPT - len(test_1)) // 3)
+    longest += records.READ * (LONGEST_SCRIPT - len(longest))
+    cut = [test_1 + record[:-1] for record in (records.begin(*TEST_1), test_1[:29], records.add(1))]
+    for script in b"", test_1, *cut, test_1 + b"\0", longest, longest + records.READ:
+        path.write_bytes(script)
+        is_plotted(f"{program} {path.relative_to(ROOT)}", as_plotted(script))
+    is_wrong_use(program, ("", "examples/shift.script 1", "target/none/of", "examples"))
+
+
+def is_plotted(command, due):
+    """The command prints these lines, and its status tells whether each is a record."""
+    prints(command, due, status=0 if all(line.split()[1] == "record" for line in due) else 1)
+
+
+def as_plotted(script):
+    """What examples/plot-records.py prints of a script."""
+    if len(script) > LONGEST_SCRIPT:
+        return [f"0 refused 8: {REFUSALS[8]}"]
+    session, lines = Session(), []
+    for record in records.records(script):
+        answer = record.called(session)
+        if answer.refusal:
+            lines.append(f"{record.position} refused {answer.refusal}: {REFUSALS[answer.refusal]}")
+        elif record.kind.call == "read":
+            # An end is a double, and so is the difference: float() rounds nothing.
+            _, stored = session.read_plot_record()
+            lower = session.read_doubles().lower
+            words = f"unbounded {answer.object}: at least {float(lower)!r}"
+            if stored:
+                words = " ".join(["record", str(stored.object), *(repr(float(number)) for number in stored[1:])])
+            lines.append(f"{record.position} {words}")
+    return lines
+
+
 def in_digits(up, q):
     """Four significant digits of q, outward, by whole numbers; 1.000e-00 where q, or what is to be printed, is 1."""
     if q >= 1 or (up and q > Fraction(9999, 10_000)):
@@ -229,6 +284,7 @@ def main():
     checks.check(doctest.testmod(jinthuol).failed == 0, "commands", "the example of the module")
     of_advised_order()
     of_equal_weights()
+    of_plot_records()
     checks.end()
 
 

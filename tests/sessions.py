@@ -6,8 +6,8 @@ read_doubles and read_plot_record of crate `host`, with reference.py.
 
 After each call every field of the answer, every number of the session and what advise, read_doubles and
 read_plot_record answer on it are compared. scratch.py runs a program that keeps a session and makes the calls; of the
-first three every other one is the call on a lent session. Short sequences of calls run interpreted and compiled; the long ones run compiled, and on the interpreter
-as far as it gets.
+first three every other one is the call on a lent session. Short sequences of calls run interpreted and compiled; the
+long ones run compiled, and on the interpreter as far as it gets.
 """
 
 import collections

@@ -20,6 +20,7 @@ sys.dont_write_bytecode = True
 import advice
 import brackets
 import division
+import doubles
 import edges
 import exact_series
 import fields
@@ -73,13 +74,15 @@ def of_refusals():
 
 
 def of_refused_calls():
-    """Behind each refusal of the header's table stand the calls that have it."""
-    header = "bindings/c/jinthuol.h"
-    for number, calls in found_in(header, r"^ \* +(\d+)  .*? +\(([\w, ]+)\)$"):
-        due = {call for call, refusal in edges.ANSWERS if refusal == int(number)}
-        if due:
-            found = calls.replace("both begins", "begin, begin_conjunction").split(", ")
-            same("refusals", f"{header}, the calls of {number}", sorted(found), sorted(due))
+    """Beside each refusal of the header's table and of README's stand the calls that have it."""
+    tables = ("bindings/c/jinthuol.h", r"^ \* +(\d+)  .*? +\(([\w, ]+)\)$"), ("README.md", r"^\| (\d+) \| [^|]+ \| ([\w, ]+) \| ")
+    for path, pattern in tables:
+        rows = dict(found_in(path, pattern))
+        for number in sorted({refusal for _, refusal in edges.ANSWERS if refusal}):
+            due = {call for call, refusal in edges.ANSWERS if refusal == number}
+            calls = rows.get(str(number), "").replace("both begins", "begin, begin_conjunction")
+            calls = "begin, begin_conjunction" if calls == "begin" else calls.replace("begin of kind 4", "begin_conjunction")
+            same("refusals", f"{path}, the calls of {number}", sorted(calls.split(", ")), sorted(due))
 
 
 # The session's size and the version.
@@ -464,6 +467,7 @@ def of_printed_examples():
     same("examples", "shift, the last reads", last, list(map(orders.advised, encounters_of(script))))
     of_advised_order()
     of_equal_weights()
+    of_plot_records()
     of_largest_order()
 
 
@@ -505,6 +509,74 @@ def of_equal_weights():
     limits = "an e from −1,000,000,000 to 2,147,483,647 and every divisor from 1 to 4,294,967,295"
     due = f"an e from −{-division.LOWEST:,} to {edges.HIGH:,} and every divisor from 1 to {edges.MOST_32:,}"
     same("examples", "equal-weights, the limits", (limits, limits in text), (due, True))
+
+
+def of_plot_records():
+    """What examples/plot-records.md says of its encounters and their records. readme.py has what the program prints."""
+    text, lines = of_printed_lines("plot-records")
+    read = {offset: records.printed(line) for offset, line in lines.items()}
+    ends = {offset: (value(of.lower), value(of.upper)) for offset, of in read.items() if of.lower != scaled.ZERO}
+    answers = {offset: doubles.record_of(read[offset]).record for offset in ends}
+    stored = {offset: record for offset, record in answers.items() if record}
+    apart = {offset: upper - lower for offset, (lower, upper) in ends.items()}
+    lost = {offset: apart[offset] - record.difference for offset, record in stored.items()}
+    is_sure = all(apart[n] <= Fraction(math.nextafter(float(stored[n].difference), math.inf)) for n in stored)
+    first, at_first, always = encounters_of((EXAMPLES / "plot-records.script").read_bytes())
+    begun_early = first, read[32].refusal
+    as_listed = "the lower end as {} × 2^{} and the upper end as {} × 2^{}".format(*read[36].lower, *read[36].upper)
+    said = [int(N) for N in re.findall(r"With (\d+) terms", text)]
+    same("examples", "plot-records, the orders", said, [read[offset].N for offset in (29, 66, 70)])
+    [digits] = re.findall(r"`(\d\.\d+e-\d\d)` has the lower end itself", text) or ["0"]
+    same("examples", "plot-records, the digits", Fraction(float(digits)), ends[77][0])
+    inputs = "R = {} m, σx = {} m, σy = {} m, a miss of {} m and {} m".format(*(n // 100 for n in at_first))
+    least, last = orders.least(always), orders.at_order(always, read[110].N)
+    # The bound of the terms left out is at most 2^-31 of the lower sum: without it too the upper end is above 1.
+    is_above_by_rounding = brackets.is_close(last) and ends[110][1] > 1 + scaled.power(-30)
+    # An upper end that is exactly 1.
+    at_1 = doubles.of_read(read[36]._replace(upper=scaled.ONE))
+    is_apart = [record is not None for record in answers.values()] == [upper < 1 for _, upper in ends.values()]
+    for words, holds in (
+        ("Where the upper end is 1 or more, the answer is `unbounded`, with the lower end alone", at_1.upper is None),
+        ("both ends are answered where the upper end is below 1, the lower end alone where it is 1 or more", is_apart),
+        ("Test 1 of document 000, Table 3. With 20 terms the read is refused as 23", begun_early == (TEST_1, 23)),
+        (as_listed, 36 in stored),
+        (f"{inputs}. M is", not any(n % 100 for n in at_first)),
+        ("The upper end is about 7.0 × 10^20", f"{float(ends[69][1]):.1e}" == "7.0e+20"),
+        ("so the answer is unbounded and no record is stored", 69 not in stored),
+        ("The upper end is below 1, so there is a record", 73 in stored),
+        ("the difference is almost as large as the upper end", 1 - apart[73] / ends[73][1] < Fraction(1, 10**6)),
+        ("less than three ten-millionths of the value", apart[77] < Fraction(3, 10**7) * ends[77][0]),
+        ("R = 160 m, σx = σy = 20 m, and no miss", always == (16000, 2000, 2000, 0, 0)),
+        ("here the rounding alone leaves the upper end above 1", is_above_by_rounding),
+        (f"It is above 1 at each order from {least}, the first that is read, to {LARGEST_N:,}", is_above_1(always)),
+        ("its probability is at least 0.9999998", Fraction("0.9999998") <= ends[110][0]),
+        ("the most likely collision of the three", max(ends[36][1], ends[77][1]) < ends[110][0]),
+        ("the decimal number of these digits is a little above it", Fraction(digits) > ends[77][0]),
+        ("exact in the records at 36 and 77, and not in the one at 73", list(map(bool, lost.values())) == [0, 1, 0]),
+        ("the exact difference is above the double, by 2^-55", lost[73] == scaled.power(-55)),
+        ("the next double above the difference: no exact difference is above that one", is_sure),
+    ):
+        same("examples", f"plot-records: {words}", (words in text, holds), (True, True))
+    same("examples", "plot-records, the records", list(stored), [36, 73, 77])
+    # Of the shift, whose begins have an object number or none.
+    shift = list(records.records((EXAMPLES / "shift.script").read_bytes()))
+    begun = [(*record.inputs, 0)[5] for record in shift if record.encounter]
+    kind = [kind for kind, of in records.KINDS.items() if of.call == "begin"]
+    reads = [answer.object for answer in map(records.printed, listed("shift").values()) if answer.lower != scaled.ZERO]
+    again = {"has two encounters": begun, "is read twice": [n for n in reads if begun.count(n) == 1]}
+    for words, objects in again.items():
+        said = [int(n) for n in re.findall(rf"Object (\d+) {words}", text)]
+        same("examples", f"plot-records: {words}", said, [n for n in dict.fromkeys(objects) if objects.count(n) == 2])
+    words = "The last encounter was begun by a record of kind {}, without an object, so its number is {}."
+    checks.check(words.format(*kind, begun[-1]) in text, "examples", f"plot-records: {words}")
+
+
+def is_above_1(encounter):
+    """Whether the upper end is above 1 at every order that is read."""
+    session = orders.at_order(encounter, orders.least(encounter))
+    while session.N < LARGEST_N and value(session.read().upper) > 1:
+        session.add(1)
+    return value(session.read().upper) > 1
 
 
 def of_advised_order():

@@ -130,7 +130,8 @@ typedef struct {
 enum { JINTHUOL_REFUSED = 0, JINTHUOL_UNBOUNDED = 1, JINTHUOL_BOTH = 2 };
 
 /* The refusal's number, or 0; then one of the three above, and the ends. lower is there where tag is JINTHUOL_UNBOUNDED or JINTHUOL_BOTH, upper only where it is
- * JINTHUOL_BOTH. Look at tag first: an end that is not there has 0 in its field, and that 0 is no end. */
+ * JINTHUOL_BOTH. Look at tag first, and not at refusal alone, which is 0 where it is unbounded too: an end that is not there has 0 in its field, and that 0 is no
+ * end. */
 typedef struct {
     uint32_t refusal;
     uint32_t tag;
@@ -203,8 +204,8 @@ jinthuol_divided jinthuol_divide(bool up, jinthuol_scaled number, uint32_t divis
 jinthuol_doubles jinthuol_read_doubles(jinthuol_session session);
 
 /* The record of a read for a plotting tool: the object number, which is 0 where the encounter was begun by jinthuol_begin, both ends as doubles, and their difference,
- * one subtraction of doubles, rounded to the nearest (a tie to the even one). There is no record where the upper end is 1 or more. Refused as 21 or 23,
- * as a read is. It changes nothing. */
+ * one subtraction of doubles, rounded to the nearest, a tie to the even one, where the program has not changed the rounding mode (the ends do not depend on it). There
+ * is no record where the upper end is 1 or more. Refused as 21 or 23, as a read is. It changes nothing. */
 jinthuol_plotted jinthuol_read_plot_record(jinthuol_session session);
 
 /* The listing of a script of records, on a session of its own; `0 refused 8` where the script has more than 65,536 bytes.

@@ -392,6 +392,11 @@ class Plotted(NamedTuple):
     refusal: int
     record: Optional[PlotRecord]
 
+    @property
+    def unbounded(self):
+        """Whether there is no record since the upper end is 1 or more."""
+        return not self.refusal and self.record is None
+
     def __str__(self):
         if self.refusal:
             return refused(self.refusal)
@@ -562,7 +567,7 @@ class Session:
         return LIBRARY.jinthuol_read_doubles(self.kept).doubles()
 
     def read_plot_record(self):
-        """A Plotted: the record of a read for a plotting tool, or None where the upper end is 1 or more.
+        """A Plotted: the record of a read for a plotting tool, which is None where the upper end is 1 or more.
 
         Refused as 21 or 23, as read is.
         """

@@ -7,6 +7,7 @@ ghost use Rattle.advice.specs.Advice.{advice};
 ghost use Rattle.host.specs.Plot.{plotted};
 ghost use Rattle.jinthuol.specs.Advice.{advice-numbers};
 ghost use Rattle.jinthuol.specs.Answer.{numbered, called};
+ghost use Rattle.jinthuol.specs.Doubles.{plotted-numbers};
 use advice::Advice;
 use advice::advise;
 use advice::orders;
@@ -80,11 +81,11 @@ fn by_value(
 
 // The calls of a plotting tool.
 fn for_a_host(C: Conjunction, E: Encounter, count: u16, script: &[u8], at: usize) -> Doubles {
-    let s = used(C, E, count, script, at);
-    jinthuol_read_doubles(s);
-    jinthuol_read_plot_record(s);
-    read_plot_record(s);
-    read_doubles(s)
+    let session = used(C, E, count, script, at);
+    jinthuol_read_doubles(session);
+    jinthuol_read_plot_record(session);
+    read_plot_record(session);
+    read_doubles(session)
 }
 
 // A session that the customer owns, lent for one call.
@@ -184,6 +185,14 @@ pub fn advised_order_exported(E: Encounter) -> jinthuol::Advice
 {
     let begun = begin_exported(jinthuol_empty(), E);
     jinthuol_advise(begun.session)
+}
+
+pub fn stored_record_exported(C: Conjunction, count: u16) -> jinthuol::Plotted
+    ensures { λ r. ⌜ r ≡ plotted-numbers (plotted (call (adds count) (call (begins-conjunction C) empty-session .session) .session)) ⌝ }
+{
+    let begun = begin_conjunction_exported(jinthuol_empty(), C);
+    let added = add_exported(begun.session, count);
+    jinthuol_read_plot_record(added.session)
 }
 
 // The functions that take no session.

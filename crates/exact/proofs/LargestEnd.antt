@@ -1,5 +1,5 @@
--- No lower end of an accepted encounter is above 2^778: R is at most 10,000,000, sx and sy are at least 1, and by test 11 M is at most half of the largest order + 2. There
--- the majorant's terms are summed, each taken up to a whole number.
+-- No lower end of an accepted encounter is above 2^778: R is at most 10,000,000, sx and sy are at least 1, and by test 11 M is at most (largest order + 2)/2, which is 513.
+-- The majorant's terms at these bounds are summed, each taken up to a whole number.
 use mathlib.Core.Path.{_≡_}
 use mathlib.Core.Bool.{false}
 use Prim.Native.Nat.{ℕ, zero, suc, _+_, _*_, _/_, _^_, _≤_}

@@ -1,17 +1,17 @@
 -- What the host is answered, by cases, and what each case says of the read's answer.
-use mathlib.Core.Path.{_≡_, refl, sym, _∙_, subst}
+use mathlib.Core.Path.{_≡_, refl, sym, _∙_}
 use mathlib.Core.Bool.{Bool, true, false, cond}
 use mathlib.Core.Logic.{inl, inr}
-use Prim.Native.Nat.{ℕ, _+_, _-_, _<_}
+use Prim.Native.Nat.{_+_, _-_}
 use native.Mathlib.Nat.{sub-add-cancel, le-trans}
 use native.Mathlib.Omega.{arith}
-use borrow.Author.Tests.{eq-eqb, ne-eqb, eqb-true, eqb-false}
-use lib.Dec.{eqb, lit≤}
+use borrow.Author.Tests.{ne-eqb, eqb-true, eqb-false}
+use lib.Dec.{eqb}
 use lib.Ieee.{Float}
 use Rattle.exact.specs.declared.Scaled.{Scaled}
 use Rattle.exact.specs.Integer.{posPart, negPart}
-use Rattle.exact.specs.Fraction.{_≼_, whole, at-most, above}
-use Rattle.exact.specs.Scaled.{value, nought}
+use Rattle.exact.specs.Fraction.{whole, at-most, above}
+use Rattle.exact.specs.Scaled.{value, IsScaled}
 use Rattle.exact.specs.Private.Ranges.{InRange}
 use Rattle.exact.proofs.Order.{at-most-holds}
 use Rattle.encounter.specs.declared.state.Answer.{Answer}
@@ -42,7 +42,7 @@ module _ (a : Answer) where
 pub exactly : (x : Scaled) → InRange 32 double-range x → Worth (as-double x) (value x)
 exactly x h = go (h .is-scaled)
   where
-    go : (Rattle.exact.specs.Scaled.IsScaled 32 x) → Worth (as-double x) (value x)
+    go : IsScaled 32 x → Worth (as-double x) (value x)
     go (inl z) = zero-worth z
     go (inr n) = worth x (posPart (x .e) + 1053 - negPart (x .e)) n (h .above) (sub-add-cancel (le-trans (h .below) (omega arith)))
 

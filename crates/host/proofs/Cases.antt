@@ -2,7 +2,7 @@
 use mathlib.Core.Path.{_≡_, refl, sym, _∙_, subst}
 use mathlib.Core.Bool.{false}
 use mathlib.Core.Logic.{⊎-elim}
-use Prim.Native.Nat.{ℕ, zero, suc, _*_, _^_, _≤_, _<_}
+use Prim.Native.Nat.{ℕ, suc, _*_, _^_, _≤_, _<_}
 use native.Mathlib.Nat.{mul-le-mul-left}
 use native.Mathlib.Omega.{arith}
 use lib.IntN.{ℤ, pos, negsuc}
@@ -11,7 +11,7 @@ use lib.Signed.{ltZ}
 use borrow.Author.Tests.{lt-ltb, le-ltb, le-leb, lt-leb}
 use Rattle.exact.specs.declared.Scaled.{Scaled}
 use Rattle.exact.specs.Fraction.{whole, at-most}
-use Rattle.exact.specs.Scaled.{scaled, value, nought, IsScaled}
+use Rattle.exact.specs.Scaled.{scaled, value, IsScaled}
 use Rattle.exact.proofs.Operations.{normal, none}
 use Rattle.exact.proofs.Fractions.{lt-or-le}
 

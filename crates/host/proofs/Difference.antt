@@ -1,8 +1,8 @@
 -- The subtraction of two doubles that are not negative, the smaller from the larger: the double nearest to the exact difference.
-use mathlib.Core.Path.{_≡_, refl, sym, _∙_, ap}
-use mathlib.Core.Bool.{Bool, true, false, true≢false}
+use mathlib.Core.Path.{_≡_, ap}
+use mathlib.Core.Bool.{true, false, true≢false}
 use Prim.Native.Nat.{ℕ, _+_, _-_, _*_, _≤_, _<_}
-use native.Mathlib.Nat.{mul-pos, le-of-mul-le-mul-right, le-dest, add-sub-cancel-left}
+use native.Mathlib.Nat.{mul-pos, le-of-mul-le-mul-right}
 use native.Mathlib.Omega.{arith}
 use borrow.Author.Tests.{le-ltb}
 use lib.IntN.{ℤ}
@@ -11,10 +11,7 @@ use lib.Ieee.Fits.{down-pos}
 use Rattle.exact.specs.Fraction.{Frac, _≼_, _≈_, _⊕_}
 use Rattle.exact.proofs.Fractions.{≼-trans, ≼-of, ≽-of, ≈-trans, ≈-sym, add-cong, ≈-refl}
 use Rattle.host.specs.Doubles.{Worth}
-
--- the double nearest to what p lacks of q
-abbrev pub Nearest : Frac → Frac → Float → Type 0
-Nearest p q d = (r : Frac) × (p ⊕ r ≈ q) × (d ≡ round binary64 false (r .num) (r .den))
+use Rattle.host.specs.Plot.{Nearest}
 
 frac : (n d : ℕ) → 0 < d → Frac
 frac n d p = record { num = n; den = d; pos = p }

@@ -6,16 +6,22 @@ use native.Mathlib.Nat.{mul-assoc, lt-of-lt-of-le}
 use native.Mathlib.Omega.{arith}
 use lib.Dec.{T}
 use lib.Pow.{pow-add, pow-pos, pow-mono, shl-lt}
-use lib.Ieee.{Float, binary64, round, isNan, nanBits, ofBits}
+use mir.Facts.{toZ-ofZ}
+use mir.Syntax.{w32}
+use mir.Val.{toZ, ofZ}
+use lib.Ieee.{binary64, round, isNan, nanBits, ofBits}
 use lib.Ieee.Fits.{round-fits}
 use lib.Ieee.Exact.{round-exact}
 use lib.Ieee.Bits.{ofBits-toBits, nanBits-is}
 use Rattle.exact.specs.declared.Scaled.{Scaled}
 use Rattle.exact.specs.Integer.{posPart, negPart}
 use Rattle.exact.specs.Scaled.{value, nought, Normal}
+use Rattle.exact.specs.Private.Ranges.{InRange}
+use Rattle.exact.proofs.Operations.{normal}
 use Rattle.host.specs.Doubles.{as-double, Worth}
 use Rattle.host.specs.Private.Fitting.{double-range}
 use Rattle.host.proofs.Pattern.{bits, number}
+use Rattle.host.proofs.Shifted.{in-fits}
 
 -- m × 2^p / 2^n in units of 2^-l is m × 2^b × 2^k
 balance : (m p n l b k : ℕ) → p + l ≡ b + (k + n) → m * 2 ^ p * 2 ^ l ≡ m * 2 ^ b * 2 ^ k * 2 ^ n
@@ -25,12 +31,12 @@ balance m p n l b k h =
     ∙ sym (mul-assoc m (2 ^ b) (2 ^ k * 2 ^ n))
     ∙ sym (mul-assoc (m * 2 ^ b) (2 ^ k) (2 ^ n))
 
-module _ (x : Scaled) (k : ℕ) (normal : Normal 32 x) (top : posPart (x .e) ≤ double-range) (field : k + negPart (x .e) ≡ posPart (x .e) + 1053) where
+module _ (x : Scaled) (k : ℕ) (n : Normal 32 x) (top : posPart (x .e) ≤ double-range) (field : k + negPart (x .e) ≡ posPart (x .e) + 1053) where
   q-small : x .m * 2 ^ 21 < 2 ^ 53
-  q-small = omega (arith, normal .high)
+  q-small = omega (arith, n .high)
 
   q-large : 2 ^ 53 ≤ 2 * (x .m * 2 ^ 21)
-  q-large = omega (arith, normal .low)
+  q-large = omega (arith, n .low)
 
   fine : x .m * 2 ^ 21 * 2 ^ k < 2 ^ 2098
   fine = lt-of-lt-of-le (shl-lt 53 k q-small) (pow-mono {j = 2098} (omega (arith, top, field)))
@@ -42,7 +48,7 @@ module _ (x : Scaled) (k : ℕ) (normal : Normal 32 x) (top : posPart (x .e) ≤
   unfolding as-double value
   worth = round-exact binary64 false (x .m * 2 ^ posPart (x .e)) (2 ^ negPart (x .e)) (x .m * 2 ^ 21) k (pow-pos (negPart (x .e))) q-small fine same
 
-  pub assembled : ofBits binary64 (k * 2 ^ 52 + x .m * 2 ^ 21) ≡ as-double x
+  assembled : ofBits binary64 (k * 2 ^ 52 + x .m * 2 ^ 21) ≡ as-double x
   unfolding as-double value
   assembled =
       let a = x .m * 2 ^ posPart (x .e) in
@@ -50,10 +56,24 @@ module _ (x : Scaled) (k : ℕ) (normal : Normal 32 x) (top : posPart (x .e) ≤
       ap (ofBits binary64) (sym (bits binary64 a c (x .m * 2 ^ 21) k (pow-pos (negPart (x .e))) q-small q-large same (as-double x) worth))
       ∙ ofBits-toBits binary64 (as-double x) (round-fits binary64 false a c)
 
-  pub no-nan : T (not (nanBits binary64 (k * 2 ^ 52 + x .m * 2 ^ 21)))
+  no-nan : T (not (nanBits binary64 (k * 2 ^ 52 + x .m * 2 ^ 21)))
   no-nan =
       subst (λ (b : Bool). T (not b))
       (sym (nanBits-is binary64 (k * 2 ^ 52 + x .m * 2 ^ 21) ∙ ap isNan assembled ∙ number (as-double x) false (value x .num) (value x .den) worth)) tt
+
+-- the same where `field` has it, and what the two operations before need
+module _ (x : Scaled) (k : ℕ) (h : InRange 32 double-range x) (some : x .m ≡ 0 → ⊥) (code : k + negPart (toZ w32 (ofZ w32 (x .e))) ≡ posPart (toZ w32 (ofZ w32 (x .e))) + 1053) where
+  told : k + negPart (x .e) ≡ posPart (x .e) + 1053
+  told = rw (toZ-ofZ {w = w32} (in-fits h)) at code
+
+  pub field-small : k ≤ double-range + 1053
+  field-small = omega (arith, told, h .above)
+
+  pub is-double : ofBits binary64 (k * 2 ^ 52 + x .m * 2 ^ 21) ≡ as-double x
+  is-double = assembled x k (normal (h .is-scaled) some) (h .above) told
+
+  pub is-number : T (not (nanBits binary64 (k * 2 ^ 52 + x .m * 2 ^ 21)))
+  is-number = no-nan x k (normal (h .is-scaled) some) (h .above) told
 
 pub zero-assembled : {x : Scaled} → x ≡ nought → ofBits binary64 0 ≡ as-double x
 unfolding as-double value ofBits round

@@ -32,13 +32,13 @@ use Rattle.host.proofs.ReadCases.{by-read}
 
 -- ---- the exponents of a number between 8 × 10^-43 and 2^778
 
-exponents : (i k : ℕ) → 2 ^ i ≤ 2 ^ k → i ≤ k
-exponents i k h =
+exponent-le : (i k : ℕ) → 2 ^ i ≤ 2 ^ k → i ≤ k
+exponent-le i k h =
     ⊎-elim (λ b. let f : ⊥ = omega (arith, pow-pos k, pow-suc 2 k, pow-mono {i = suc k} {j = i} b) in absurd f) (λ b. b) (lt-or-le k i)
 
 -- t is 10^43
 from-below : (t k m n : ℕ) → t ≤ 2 ^ k → m < 2 ^ 32 → 8 * (2 ^ n * 1) ≤ m * 1 * t * 1 → n ≤ 32 + k
-from-below t k m n b h l = exponents n (32 + k) (le-trans some (le-trans (mul-le-mul (le-of-lt h) b) (le-of-eq (sym (pow-add 2 32 k)))))
+from-below t k m n b h l = exponent-le n (32 + k) (le-trans some (le-trans (mul-le-mul (le-of-lt h) b) (le-of-eq (sym (pow-add 2 32 k)))))
   where
     some : 2 ^ n ≤ m * t
     some = omega (arith, l)
@@ -49,7 +49,7 @@ not-small m (pos n) h l = omega arith
 not-small m (negsuc n) h l = le-trans (from-below (10 ^ 43) 143 m (suc n) (lit≤ tt) h (l .le)) (lit≤ tt)
 
 from-above : (k m n : ℕ) → 0 < m → m * 2 ^ n * 1 ≤ 2 ^ k * 1 → n ≤ k
-from-above k m n h l = exponents n k (omega (arith, l, mul-le-mul-right (2 ^ n) h))
+from-above k m n h l = exponent-le n k (omega (arith, l, mul-le-mul-right (2 ^ n) h))
 
 not-large : (m : ℕ) (e : ℤ) → 0 < m → value (scaled m e) ≼ whole (2 ^ 778) → posPart e ≤ double-range
 unfolding whole value

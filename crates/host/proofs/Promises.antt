@@ -1,9 +1,6 @@
 -- The promises of the two calls, of the answer of a read.
-use mathlib.Core.Path.{_≡_, refl, sym, _∙_, subst}
-use mathlib.Core.Bool.{Bool, true, false}
-use Prim.Native.Nat.{ℕ}
+use mathlib.Core.Path.{_≡_, refl}
 use native.Mathlib.Omega.{arith}
-use lib.Ieee.{Float}
 use Rattle.exact.specs.Fraction.{_≼_}
 use Rattle.exact.specs.Numbers.{exponential-cut}
 use Rattle.exact.specs.Scaled.{value}
@@ -11,9 +8,8 @@ use Rattle.exact.proofs.Fractions.{≼-trans, ≼-refl}
 use Rattle.exact.proofs.Enclosure.{enclosed}
 use Rattle.encounter.specs.declared.state.Session.{Session}
 use Rattle.encounter.specs.declared.state.Answer.{Answer}
-use Rattle.encounter.specs.Session.{bracket, conjunction-of}
+use Rattle.encounter.specs.Session.{bracket}
 use Rattle.encounter.specs.Calls.{reads, call, Reached}
-use Rattle.encounter.proofs.calls.AcceptedReads.{ReadOf}
 use Rattle.host.specs.declared.Doubles.{Doubles}
 use Rattle.host.specs.declared.Doubles.the-variants.{Both, Unbounded, Refused}
 use Rattle.host.specs.declared.Plotted.{Plotted}

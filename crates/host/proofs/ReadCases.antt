@@ -10,7 +10,6 @@ use Rattle.encounter.specs.declared.state.Session.{Session}
 use Rattle.encounter.specs.declared.state.Answer.{Answer}
 use Rattle.encounter.specs.Session.{refused, bracket, conjunction-of}
 use Rattle.encounter.specs.Calls.{history-of, outcome, reads, call, Reached}
-use Rattle.encounter.specs.Claims.{Readable}
 use Rattle.encounter.proofs.calls.Answering.{number}
 use Rattle.encounter.proofs.calls.AcceptedReads.{ReadOf, read-of}
 

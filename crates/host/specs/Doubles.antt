@@ -1,6 +1,6 @@
 -- Request #108 of document 02, 'Doubles for the host': what the host is answered of a session.
 use mathlib.Core.Path.{_≡_}
-use mathlib.Core.Bool.{Bool, true, false, cond}
+use mathlib.Core.Bool.{true, false, cond}
 use Prim.Native.Nat.{ℕ, _<_}
 use lib.Dec.{eqb}
 use lib.Ieee.{Float, binary64, round}

@@ -27,14 +27,14 @@ counts-as reads-plot-record = reads
 
 -- what each is answered, in its own form
 pub data Reply : Type 0 where
-  answer : Answer → Reply
-  ends : Doubles → Reply
-  plot : Plotted → Reply
+  as-answer : Answer → Reply
+  as-doubles : Doubles → Reply
+  as-record : Plotted → Reply
 
 abbrev pub reply : HostCall → Session → Reply
-reply (library c) s = answer (call c s .answer)
-reply reads-doubles s = ends (doubles s)
-reply reads-plot-record s = plot (plotted s)
+reply (library c) s = as-answer (call c s .answer)
+reply reads-doubles s = as-doubles (doubles s)
+reply reads-plot-record s = as-record (plotted s)
 
 -- a call in such a list: its place, and its reply
 pub record HostPlace : Type 0 where
@@ -48,9 +48,9 @@ host-places s w (c ∷ cs) =
 
 -- a reply is the answer of its place, in the reply's form; a host call has the place of a read
 abbrev pub Tells : Place → Reply → Type 0
-Tells p (answer a) = a ≡ p .answer
-Tells p (ends d) = (p .request ≡ read) × Says (p .answer) d
-Tells p (plot r) = (p .request ≡ read) × Stores (p .answer) r
+Tells p (as-answer a) = a ≡ p .answer
+Tells p (as-doubles d) = (p .request ≡ read) × Says (p .answer) d
+Tells p (as-record r) = (p .request ≡ read) × Stores (p .answer) r
 
 -- what holds of such a call: the three demands of its place (demand 3 of a host call too, then), and what its reply tells
 pub record HostClaim (p : HostPlace) : Type 0 where

@@ -73,7 +73,7 @@ fn record_of(object: u32, d: Doubles) -> Plotted
     }
 }
 
-// Both ends at the session's order, or the lower end alone: refused as 21 or 23.
+// Both ends at the session's order, or the lower end alone where the upper end is 1 or more. Refused as 21 or 23.
 pub fn read_doubles(s: Session) -> Doubles
     requires { ⌜ Reached s ⌝ }
     ensures { λ r. ⌜ (r ≡ doubles s) × Says (call reads s .answer) r ⌝ }
@@ -82,7 +82,7 @@ pub fn read_doubles(s: Session) -> Doubles
     ends_of(read(s))
 }
 
-// The record at the session's order, where both ends are answered: refused as 21 or 23.
+// The record at the session's order, where the upper end is below 1. Refused as 21 or 23.
 pub fn read_plot_record(s: Session) -> Plotted
     requires { ⌜ Reached s ⌝ }
     ensures { λ r. ⌜ (r ≡ plotted s) × Stores (call reads s .answer) r ⌝ }

@@ -4,7 +4,7 @@ use lib.Ieee.{binary64, ofBits}
 use Rattle.host.specs.declared.Doubles.{Doubles as WithCases}
 use Rattle.host.specs.declared.Doubles.the-variants.{Both, Unbounded, Refused}
 use Rattle.host.specs.declared.Plotted.{Plotted as PlottedWithCases}
-use Rattle.host.specs.declared.Plotted.the-variants as plotted
+use Rattle.host.specs.declared.Plotted.the-variants as of-plotted
 use Rattle.jinthuol.specs.Doubles.{no-double, doubles-numbers, doubles-told, plotted-numbers, plotted-told}
 
 pub zero-is : ofBits binary64 0 ≡ no-double
@@ -19,6 +19,6 @@ doubles-told-is (Refused r) = refl
 
 pub plotted-told-is : (p : PlottedWithCases) → plotted-told (plotted-numbers p) ≡ p
 unfolding plotted-numbers plotted-told
-plotted-told-is (plotted.Record p) = refl
-plotted-told-is plotted.Unbounded = refl
-plotted-told-is (plotted.Refused r) = refl
+plotted-told-is (of-plotted.Record p) = refl
+plotted-told-is of-plotted.Unbounded = refl
+plotted-told-is (of-plotted.Refused r) = refl

@@ -7,7 +7,7 @@ use lib.Ieee.{Float, fin}
 use Rattle.host.specs.declared.Doubles.{Doubles as WithCases}
 use Rattle.host.specs.declared.Doubles.the-variants.{Both, Unbounded, Refused}
 use Rattle.host.specs.declared.Plotted.{Plotted as PlottedWithCases}
-use Rattle.host.specs.declared.Plotted.the-variants as plotted
+use Rattle.host.specs.declared.Plotted.the-variants as of-plotted
 use Rattle.jinthuol.specs.declared.Doubles.{Doubles}
 use Rattle.jinthuol.specs.declared.Plotted.{Plotted}
 
@@ -31,10 +31,10 @@ no-record refusal tag = record { refusal = refusal; tag = tag; plot = record { o
 
 -- the refusal's number, or 0; the tag, as above; the record, where both ends are there
 unfoldable pub plotted-numbers : PlottedWithCases → Plotted
-plotted-numbers (plotted.Record p) = record { refusal = 0; tag = 2; plot = p }
-plotted-numbers plotted.Unbounded = no-record 0 1
-plotted-numbers (plotted.Refused r) = no-record r 0
+plotted-numbers (of-plotted.Record p) = record { refusal = 0; tag = 2; plot = p }
+plotted-numbers of-plotted.Unbounded = no-record 0 1
+plotted-numbers (of-plotted.Refused r) = no-record r 0
 
 -- the case that the numbers tell
 unfoldable pub plotted-told : Plotted → PlottedWithCases
-plotted-told p = cond (eqb (p .tag) 2) (plotted.Record (p .plot)) (cond (eqb (p .tag) 1) plotted.Unbounded (plotted.Refused (p .refusal)))
+plotted-told p = cond (eqb (p .tag) 2) (of-plotted.Record (p .plot)) (cond (eqb (p .tag) 1) of-plotted.Unbounded (of-plotted.Refused (p .refusal)))

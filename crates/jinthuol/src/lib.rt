@@ -6,8 +6,8 @@ ghost use Rattle.encounter.specs.Session.{empty as empty-session};
 ghost use Rattle.encounter.specs.Calls.{begins, begins-conjunction, adds, reads, call, Reached};
 ghost use Rattle.advice.specs.Advice.{advice as advised};
 ghost use Rattle.division.specs.Division.{divided, Says};
-ghost use Rattle.host.specs.Doubles.{doubles as ends-of};
-ghost use Rattle.host.specs.Plot.{plotted as plot-of};
+ghost use Rattle.host.specs.Doubles.{doubles as host-doubles, Says as DoublesSay};
+ghost use Rattle.host.specs.Plot.{plotted as host-plotted, Stores};
 ghost use Rattle.jinthuol.specs.Advice.{advice-numbers, told};
 ghost use Rattle.jinthuol.specs.Answer.{class-number, numbered, called};
 ghost use Rattle.jinthuol.specs.Doubles.{doubles-numbers, doubles-told, plotted-numbers, plotted-told};
@@ -239,7 +239,7 @@ pub extern "C" fn jinthuol_advise(session: Session) -> Advice
 #[no_mangle]
 pub extern "C" fn jinthuol_read_doubles(session: Session) -> Doubles
     requires { ⌜ Reached session ⌝ }
-    ensures { λ r. ⌜ (r ≡ doubles-numbers (ends-of session)) × (doubles-told r ≡ ends-of session) ⌝ }
+    ensures { λ r. ⌜ (r ≡ doubles-numbers (host-doubles session)) × (doubles-told r ≡ host-doubles session) × DoublesSay (call reads session .answer) (doubles-told r) ⌝ }
 {
     doubles_of(read_doubles(session))
 }
@@ -248,7 +248,7 @@ pub extern "C" fn jinthuol_read_doubles(session: Session) -> Doubles
 #[no_mangle]
 pub extern "C" fn jinthuol_read_plot_record(session: Session) -> Plotted
     requires { ⌜ Reached session ⌝ }
-    ensures { λ r. ⌜ (r ≡ plotted-numbers (plot-of session)) × (plotted-told r ≡ plot-of session) ⌝ }
+    ensures { λ r. ⌜ (r ≡ plotted-numbers (host-plotted session)) × (plotted-told r ≡ host-plotted session) × Stores (call reads session .answer) (plotted-told r) ⌝ }
 {
     plotted_of(read_plot_record(session))
 }

@@ -4,15 +4,12 @@ use Rattle.host.proofs.Promises.{fit, read-doubles-is}
 use Rattle.host.proofs.read_doubles.Statement.{statement}
 use Rattle.host.proofs.read_doubles.Tie as tie
 
--- src/lib.rt:82:13
 read-requires : tie.Need-read-requires
 read-requires c κs = search needs
 
--- src/lib.rt:82:5
 ends-of-requires : tie.Need-ends-of-requires
 ends-of-requires c κs = search (fit, needs)
 
--- src/lib.rt:77:1
 returns : tie.Need-returns
 returns c = (read-doubles-is (c .before .before .pre) (c .before .read .ensures .0) (c .ends-of .ensures), host-demands)
 

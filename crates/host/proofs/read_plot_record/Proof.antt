@@ -3,19 +3,15 @@ use Rattle.host.proofs.Promises.{fit, read-plot-record-is}
 use Rattle.host.proofs.read_plot_record.Statement.{statement}
 use Rattle.host.proofs.read_plot_record.Tie as tie
 
--- src/lib.rt:90:9
 read-requires : tie.Need-read-requires
 read-requires c κs = search needs
 
--- src/lib.rt:92:23
 ends-of-requires : tie.Need-ends-of-requires
 ends-of-requires c κs = search (fit, needs)
 
--- src/lib.rt:92:5
 record-of-requires : tie.Need-record-of-requires
 record-of-requires c κs = search needs
 
--- src/lib.rt:86:1
 returns : tie.Need-returns
 returns c = read-plot-record-is (c .before .before .before .pre) (c .before .before .read .ensures .0) (c .before .ends-of .ensures) (c .record-of .ensures)
 

@@ -3,29 +3,23 @@ use Rattle.host.specs.Plot.{in-record}
 use Rattle.host.proofs.record_of.Statement.{statement}
 use Rattle.host.proofs.record_of.Tie as tie
 
--- src/lib.rt:65:23
 enum-known-d : tie.Need-enum-known-d
 enum-known-d c = search needs
 
--- src/lib.rt:71:34
 enum-told : tie.Need-enum-told
 enum-told c = search needs
 
--- src/lib.rt:72:26
 enum-known-d-2 : tie.Need-enum-known-d-2
 enum-known-d-2 c = search needs
 
--- src/lib.rt:61:1
 returns : tie.Need-returns
 unfolding in-record
 returns c = rw (c .before .d .given .1)
 
--- src/lib.rt:61:1
 returns-2 : tie.Need-returns-2
 unfolding in-record
 returns-2 c = search needs
 
--- src/lib.rt:61:1
 returns-3 : tie.Need-returns-3
 unfolding in-record
 returns-3 c = rw (c .before .d2 .given .1)

@@ -7,7 +7,7 @@ use Rattle.exact.specs.Scaled.{value, IsScaled}
 use Rattle.exact.specs.Private.Ranges.{InRange}
 use Rattle.encounter.specs.declared.state.Answer.{Answer}
 
--- a scaled number of 32 bits with e from −960 to 960 is a double (one has room from −1053 to 992, zeros at the end of m aside)
+-- a scaled number of 32 bits with e from −960 to 960 is a double (so is each with e from −1074 to 992; put together as in src/double.rt, from −1053 on)
 abbrev pub double-range : ℕ
 double-range = 960
 

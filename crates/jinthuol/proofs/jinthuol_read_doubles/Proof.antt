@@ -12,7 +12,10 @@ doubles-of-requires : tie.Need-doubles-of-requires
 doubles-of-requires c κs = search needs
 
 returns : tie.Need-returns
-returns c = let e = c .before .read-doubles .ensures .0 .0 in (c .doubles-of .ensures ∙ ap doubles-numbers e, ap doubles-told (c .doubles-of .ensures) ∙ doubles-told-is _ ∙ e)
+returns c =
+    let (e, h) = c .before .read-doubles .ensures .0 in
+    let back = ap doubles-told (c .doubles-of .ensures) ∙ doubles-told-is _ in
+    (c .doubles-of .ensures ∙ ap doubles-numbers e, back ∙ e, rw back h)
 
 pub jinthuol-read-doubles-spec : {M : Type 1} → statement M
 jinthuol-read-doubles-spec = tie.close (tie.spec read-doubles-requires doubles-of-requires returns)

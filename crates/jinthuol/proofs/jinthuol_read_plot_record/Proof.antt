@@ -12,7 +12,10 @@ plotted-of-requires : tie.Need-plotted-of-requires
 plotted-of-requires c κs = search needs
 
 returns : tie.Need-returns
-returns c = let e = c .before .read-plot-record .ensures .0 in (c .plotted-of .ensures ∙ ap plotted-numbers e, ap plotted-told (c .plotted-of .ensures) ∙ plotted-told-is _ ∙ e)
+returns c =
+    let (e, h) = c .before .read-plot-record .ensures in
+    let back = ap plotted-told (c .plotted-of .ensures) ∙ plotted-told-is _ in
+    (c .plotted-of .ensures ∙ ap plotted-numbers e, back ∙ e, rw back h)
 
 pub jinthuol-read-plot-record-spec : {M : Type 1} → statement M
 jinthuol-read-plot-record-spec =

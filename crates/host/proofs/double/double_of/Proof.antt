@@ -1,10 +1,7 @@
 use native.Mathlib.Omega.{arith}
-use mir.Facts.{toZ-ofZ}
-use mir.Syntax.{w32}
 use borrow.Author.Needs.{needs}
-use Rattle.exact.proofs.Operations.{normal, none}
-use Rattle.host.proofs.Shifted.{in-fits}
-use Rattle.host.proofs.Exactly.{zero-assembled, assembled, no-nan}
+use Rattle.exact.proofs.Operations.{none}
+use Rattle.host.proofs.Exactly.{zero-assembled, field-small, is-double, is-number}
 use Rattle.host.proofs.double.double_of.Statement.{statement}
 use Rattle.host.proofs.double.double_of.Tie as tie
 
@@ -25,27 +22,19 @@ mul-q c = search needs
 
 mul-result : tie.Need-mul-result
 mul-result c =
-    let start = c .before .before .before .before .before in
-    let is = rw (toZ-ofZ {w = w32} (in-fits (start .pre))) at (c .before .field .ensures) in
-    omega (arith, is, start .pre .above)
+    let z = c .before .before .before in
+    omega (arith, field-small _ _ (z .before .before .pre) (z .if1 .left) (c .before .field .ensures))
 
 add-result : tie.Need-add-result
 add-result c =
-    let start = c .before .before .before .before .before in
-    let is = rw (toZ-ofZ {w = w32} (in-fits (start .pre))) at (c .before .field .ensures) in
-    omega (arith, is, start .pre .above)
+    let z = c .before .before .before in
+    omega (arith, field-small _ _ (z .before .before .pre) (z .if1 .left) (c .before .field .ensures))
 
 float-from-bits-result : tie.Need-float-from-bits-result
-float-from-bits-result c =
-    let start = c .before .before .before .before .before in
-    let is = rw (toZ-ofZ {w = w32} (in-fits (start .pre))) at (c .before .field .ensures) in
-    no-nan (start .args .x) (c .before .field .result) (normal (start .pre .is-scaled) (c .before .before .before .if1 .left)) (start .pre .above) is
+float-from-bits-result c = let z = c .before .before .before in is-number _ _ (z .before .before .pre) (z .if1 .left) (c .before .field .ensures)
 
 returns-2 : tie.Need-returns-2
-returns-2 c =
-    let start = c .before .before .before .before .before in
-    let is = rw (toZ-ofZ {w = w32} (in-fits (start .pre))) at (c .before .field .ensures) in
-    assembled (start .args .x) (c .before .field .result) (normal (start .pre .is-scaled) (c .before .before .before .if1 .left)) (start .pre .above) is
+returns-2 c = let z = c .before .before .before in is-double _ _ (z .before .before .pre) (z .if1 .left) (c .before .field .ensures)
 
 pub double-of-spec : {M : Type 1} → statement M
 double-of-spec =
