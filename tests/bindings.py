@@ -350,7 +350,7 @@ def of_both(what, session, due, python):
     answers = session.read_doubles(), session.read_plot_record()
     unbounded = due.doubles.lower is not None and due.doubles.upper is None
     # A float is compared as the fraction that it is.
-    if answers != (due.doubles, due.plotted) or answers[0].unbounded != unbounded:
+    if answers != (due.doubles, due.plotted) or {a.unbounded for a in answers} != {unbounded}:
         differs(f"from Python, {what}", answers, (due.doubles, due.plotted))
     a = python.LIBRARY.jinthuol_read_doubles(session.kept)
     b = python.LIBRARY.jinthuol_read_plot_record(session.kept)
