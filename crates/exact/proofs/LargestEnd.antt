@@ -24,11 +24,15 @@ use Rattle.exact.proofs.Enclosure.{sum-longer, one-pos, exponential-lea
 -- ---- the majorant at the largest c(0) and M, in whole numbers
 
 -- a bound of a(0), and one of M
-abbrev largest-start : ℕ
-largest-start = largest-length * largest-length
+abbrev most-start : ℕ
+most-start = largest-length * largest-length
 
-abbrev largest-M : ℕ
-largest-M = largest-order / 2 + 1
+abbrev most-M : ℕ
+most-M = largest-order / 2 + 1
+
+-- the bound of the lower ends is 2 to this
+abbrev pub most-bits : ℕ
+most-bits = 778
 
 -- of d(n), and of the sum of d(0) to d(n−1)
 pub record Most : Type 0 where
@@ -36,11 +40,11 @@ pub record Most : Type 0 where
   pub total : ℕ
 
 unfoldable most : ℕ → Most
-most zero = record { term = largest-start; total = 0 }
-most (suc n) = let w = most n in record { term = suc (w .term * largest-M / suc (suc n)); total = w .total + w .term }
+most zero = record { term = most-start; total = 0 }
+most (suc n) = let w = most n in record { term = suc (w .term * most-M / suc (suc n)); total = w .total + w .term }
 
 -- the sum to the largest order, and twice the next term
-total-is : most largest-order .total + 2 * most largest-order .term ≤ 2 ^ 778
+total-is : most largest-order .total + 2 * most largest-order .term ≤ 2 ^ most-bits
 unfolding most IsLe
 total-is = le-by-compare _ _ tt
 
@@ -58,7 +62,7 @@ sum-whole : (v w : ℕ) → whole v ⊕ whole w ≼ whole (v + w)
 unfolding _⊕_ whole
 sum-whole v w = record { le = omega arith }
 
-module _ (c₀ m : Frac) (c≤ : c₀ ≼ whole largest-start) (m≤ : m ≼ whole largest-M) where
+module _ (c₀ m : Frac) (c≤ : c₀ ≼ whole most-start) (m≤ : m ≼ whole most-M) where
   term-le : (n : ℕ) → exact-d c₀ m n ≼ whole (most n .term)
   unfolding exact-d most
   term-le zero = c≤
@@ -75,11 +79,11 @@ over-one : (p : Frac) → p ⊘ whole 1 ≼ p
 unfolding _⊘_ whole
 over-one p = record { le = omega arith }
 
-start-most : (E : Encounter) → Bounds E → a₀ E ≼ whole largest-start
+start-most : (E : Encounter) → Bounds E → a₀ E ≼ whole most-start
 unfolding a₀ _over_ whole
 start-most E b = record { le = mul-le-mul (mul-le-mul (b .R-max) (b .R-max)) (zero-lt-suc _) }
 
-M-most : (m : Frac) → whole 2 ⊗ m ≼ whole (largest-order + 2) → m ≼ whole largest-M
+M-most : (m : Frac) → whole 2 ⊗ m ≼ whole (largest-order + 2) → m ≼ whole most-M
 unfolding _⊗_ whole
 M-most m h = record { le = omega (arith, h .le) }
 
@@ -89,7 +93,7 @@ module _ {E : Encounter} (h : Accepted E) where
   twice-M = not-above _ _ (facts h .readable)
 
   -- the exact series, wherever it is cut
-  series-most : (N : ℕ) → series E N ≼ whole (2 ^ 778)
+  series-most : (N : ℕ) → series E N ≼ whole (2 ^ most-bits)
   unfolding series
   series-most N =
       ≼-trans (sum-longer (c E) N (largest-order + N) (omega arith))
@@ -97,12 +101,12 @@ module _ {E : Encounter} (h : Accepted E) where
       (≼-trans (add-mono (≼-trans (sum-mono largest-order (c-le-d E (value (M E)) (h-le-u E) (m-le-M E))) (total-le _ _ start M≤ largest-order)) (mul-mono (≼-refl (whole 2)) (term-le _ _ start M≤ largest-order)))
       (≼-trans (add-mono (≼-refl _) (product-whole _ _)) (≼-trans (sum-whole _ _) (whole-mono total-is)))))
     where
-      start : a₀ E ≼ whole largest-start
+      start : a₀ E ≼ whole most-start
       start = start-most E (facts h .bounds)
 
-      M≤ : value (M E) ≼ whole largest-M
+      M≤ : value (M E) ≼ whole most-M
       M≤ = M-most _ twice-M
 
-  pub lower-end-most : (N : ℕ) → 1 ≤ N → refuses-23 E N ≡ false → value (lower-end E N) ≼ whole (2 ^ 778)
+  pub lower-end-most : (N : ℕ) → 1 ≤ N → refuses-23 E N ≡ false → value (lower-end E N) ≼ whole (2 ^ most-bits)
   unfolding quotient
   lower-end-most N N₁ r = ≼-trans (enclosed h N N₁ r N exponential-cut (omega arith) (omega arith) .0) (≼-trans (quot-mono (≼-refl _) (exponential-least E exponential-cut (lit< tt)) one-pos) (≼-trans (over-one _) (series-most N)))

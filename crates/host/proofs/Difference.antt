@@ -1,8 +1,8 @@
 -- The subtraction of two doubles that are not negative, the smaller from the larger: the double nearest to the exact difference.
-use mathlib.Core.Path.{_≡_, ap}
+use mathlib.Core.Path.{_≡_, refl, ap}
 use mathlib.Core.Bool.{true, false, true≢false}
 use Prim.Native.Nat.{ℕ, _+_, _-_, _*_, _≤_, _<_}
-use native.Mathlib.Nat.{mul-pos, le-of-mul-le-mul-right}
+use native.Mathlib.Nat.{mul-comm, mul-pos, le-of-mul-le-mul-right}
 use native.Mathlib.Omega.{arith}
 use borrow.Author.Tests.{le-ltb}
 use lib.IntN.{ℤ}
@@ -27,14 +27,10 @@ numerators : (a b c : ℕ) (C : 0 < c) → frac b c C ≼ frac a c C → b ≤ a
 unfolding frac
 numerators a b c C h = le-of-mul-le-mul-right (h .le) C
 
--- m × 2^e is a fraction over down e × down d
-same : (m : ℕ) (e d : ℤ) (p : Frac) → m * up e * p .den ≡ p .num * down e → p ≈ frac (m * up e * down d) (down e * down d) (mul-pos (down-pos e) (down-pos d))
+-- m × 2^e as a fraction over c, which is k times down e
+over-common : (m : ℕ) (e : ℤ) (k c : ℕ) (C : 0 < c) (p : Frac) → c ≡ down e * k → m * up e * p .den ≡ p .num * down e → p ≈ frac (m * up e * k) c C
 unfolding frac
-same m e d p h = record { eq = omega (arith, ap (λ (x : ℕ). x * down d) h) }
-
-swapped : (n : ℕ) (d e : ℤ) (p : Frac) → n * up d * p .den ≡ p .num * down d → p ≈ frac (n * up d * down e) (down e * down d) (mul-pos (down-pos e) (down-pos d))
-unfolding frac
-swapped n d e p h = record { eq = omega (arith, ap (λ (x : ℕ). x * down e) h) }
+over-common m e k c C p is h = record { eq = rw is (omega (arith, ap (λ (x : ℕ). x * k) h)) }
 
 pub nearest : (p q : Frac) (l u : Float) → Worth l p → Worth u q → p ≼ q → Nearest p q (sub binary64 u l)
 nearest p q nan u L U h = absurd L
@@ -62,10 +58,10 @@ nearest p q (fin false n d) (fin false m e) L U h = (
     C = mul-pos (down-pos e) (down-pos d)
 
     is-a : q ≈ frac a c C
-    is-a = same m e d q (U .1)
+    is-a = over-common m e (down d) c C q refl (U .1)
 
     is-b : p ≈ frac b c C
-    is-b = swapped n d e p (L .1)
+    is-b = over-common n d (down e) c C p (mul-comm (down e) (down d)) (L .1)
 
     b≤a : b ≤ a
     b≤a = numerators a b c C (≼-trans (≽-of is-b) (≼-trans h (≼-of is-a)))

@@ -31,6 +31,7 @@ balance m p n l b k h =
     ∙ sym (mul-assoc m (2 ^ b) (2 ^ k * 2 ^ n))
     ∙ sym (mul-assoc (m * 2 ^ b) (2 ^ k) (2 ^ n))
 
+-- In units of the smallest double, 2^-1074, x is m × 2^21 × 2^k with k = e + 1053, since 1074 = 21 + 1053; a double is below 2^1024, which is 2^2098 of them.
 module _ (x : Scaled) (k : ℕ) (n : Normal 32 x) (top : posPart (x .e) ≤ double-range) (field : k + negPart (x .e) ≡ posPart (x .e) + 1053) where
   q-small : x .m * 2 ^ 21 < 2 ^ 53
   q-small = omega (arith, n .high)
@@ -61,7 +62,7 @@ module _ (x : Scaled) (k : ℕ) (n : Normal 32 x) (top : posPart (x .e) ≤ doub
       subst (λ (b : Bool). T (not b))
       (sym (nanBits-is binary64 (k * 2 ^ 52 + x .m * 2 ^ 21) ∙ ap isNan assembled ∙ number (as-double x) false (value x .num) (value x .den) worth)) tt
 
--- the same where `field` has it, and what the two operations before need
+-- the same of the field that the code forms, and how large that is
 module _ (x : Scaled) (k : ℕ) (h : InRange 32 double-range x) (some : x .m ≡ 0 → ⊥) (code : k + negPart (toZ w32 (ofZ w32 (x .e))) ≡ posPart (toZ w32 (ofZ w32 (x .e))) + 1053) where
   told : k + negPart (x .e) ≡ posPart (x .e) + 1053
   told = rw (toZ-ofZ {w = w32} (in-fits h)) at code

@@ -22,7 +22,7 @@ use Rattle.exact.proofs.Order.{above-holds}
 use Rattle.exact.proofs.Ranges.{nought-range}
 use Rattle.exact.proofs.Rounding.{round-is}
 use Rattle.exact.proofs.SmallestEnd.{lower-end-least, upper-end-least}
-use Rattle.exact.proofs.LargestEnd.{lower-end-most}
+use Rattle.exact.proofs.LargestEnd.{most-bits, lower-end-most}
 use Rattle.encounter.specs.declared.state.Session.{Session}
 use Rattle.encounter.specs.Session.{bracket, conjunction-of}
 use Rattle.encounter.specs.Calls.{reads, call, Reached}
@@ -30,17 +30,17 @@ use Rattle.encounter.proofs.calls.AcceptedReads.{ReadOf}
 use Rattle.host.specs.Private.Fitting.{double-range, EndsFit}
 use Rattle.host.proofs.ReadCases.{by-read}
 
--- ---- the exponents of a number between 8 × 10^-43 and 2^778
+-- ---- the exponent of a number from 8 × 10^-43 to 2^778
 
 exponent-le : (i k : ℕ) → 2 ^ i ≤ 2 ^ k → i ≤ k
 exponent-le i k h =
     ⊎-elim (λ b. let f : ⊥ = omega (arith, pow-pos k, pow-suc 2 k, pow-mono {i = suc k} {j = i} b) in absurd f) (λ b. b) (lt-or-le k i)
 
--- t is 10^43
-from-below : (t k m n : ℕ) → t ≤ 2 ^ k → m < 2 ^ 32 → 8 * (2 ^ n * 1) ≤ m * 1 * t * 1 → n ≤ 32 + k
-from-below t k m n b h l = exponent-le n (32 + k) (le-trans some (le-trans (mul-le-mul (le-of-lt h) b) (le-of-eq (sym (pow-add 2 32 k)))))
+-- w is 10^43
+from-below : (w k m n : ℕ) → w ≤ 2 ^ k → m < 2 ^ 32 → 8 * (2 ^ n * 1) ≤ m * 1 * w * 1 → n ≤ 32 + k
+from-below w k m n b h l = exponent-le n (32 + k) (le-trans some (le-trans (mul-le-mul (le-of-lt h) b) (le-of-eq (sym (pow-add 2 32 k)))))
   where
-    some : 2 ^ n ≤ m * t
+    some : 2 ^ n ≤ m * w
     some = omega (arith, l)
 
 not-small : (m : ℕ) (e : ℤ) → m < 2 ^ 32 → whole 8 ≼ value (scaled m e) ⊗ whole (10 ^ 43) → negPart e ≤ double-range
@@ -51,12 +51,12 @@ not-small m (negsuc n) h l = le-trans (from-below (10 ^ 43) 143 m (suc n) (lit�
 from-above : (k m n : ℕ) → 0 < m → m * 2 ^ n * 1 ≤ 2 ^ k * 1 → n ≤ k
 from-above k m n h l = exponent-le n k (omega (arith, l, mul-le-mul-right (2 ^ n) h))
 
-not-large : (m : ℕ) (e : ℤ) → 0 < m → value (scaled m e) ≼ whole (2 ^ 778) → posPart e ≤ double-range
+not-large : (m : ℕ) (e : ℤ) → 0 < m → value (scaled m e) ≼ whole (2 ^ most-bits) → posPart e ≤ double-range
 unfolding whole value
-not-large m (pos n) h l = le-trans (from-above 778 m n h (l .le)) (lit≤ tt)
+not-large m (pos n) h l = le-trans (from-above most-bits m n h (l .le)) (lit≤ tt)
 not-large m (negsuc n) h l = omega arith
 
-in-range : (x : Scaled) → IsScaled 32 x → whole 8 ≼ value x ⊗ whole (10 ^ 43) → value x ≼ whole (2 ^ 778) → InRange 32 double-range x
+in-range : (x : Scaled) → IsScaled 32 x → whole 8 ≼ value x ⊗ whole (10 ^ 43) → value x ≼ whole (2 ^ most-bits) → InRange 32 double-range x
 in-range x (inl z) l h = subst (λ (x : Scaled). InRange 32 double-range x) (sym z) (nought-range 32 double-range)
 in-range x (inr n) l h = record {
   is-scaled = inr n;
@@ -77,8 +77,8 @@ upper-form : (E : Encounter) (N : ℕ) → IsScaled 32 (upper-end E N)
 unfolding upper-end
 upper-form E N = rounded true _
 
-below-1 : (p : Frac) → at-most (whole 1) p ≡ false → p ≼ whole (2 ^ 778)
-below-1 p h = ≼-trans (≼-of-≺ (above-holds (whole 1) p (unfold above in rw h))) (whole-mono (pow-pos 778))
+below-1 : (p : Frac) → at-most (whole 1) p ≡ false → p ≼ whole (2 ^ most-bits)
+below-1 p h = ≼-trans (≼-of-≺ (above-holds (whole 1) p (unfold above in rw h))) (whole-mono (pow-pos most-bits))
 
 of-bracket : {s : Session} → ReadOf s → EndsFit (bracket (conjunction-of s) (s .N))
 unfolding bracket

@@ -21,7 +21,7 @@ use Rattle.host.proofs.Fitting.{ends-fit}
 use Rattle.host.proofs.Answering.{says}
 use Rattle.host.proofs.Difference.{nearest}
 
--- no end of a read is above the other: of a refusal both are 0
+-- the lower end of a read is not above the upper end; of a refusal both are 0
 ordered : {s : Session} → Reached s → value (call reads s .answer .lower) ≼ value (call reads s .answer .upper)
 unfolding bracket
 ordered {s} r =
