@@ -119,6 +119,7 @@ def first_calls():
     calls = [call for _, inputs in BEGINS for call in (("begin", *inputs), ("read",))]
     calls += [call for _, inputs in conjunctions() for call in (("begin_conjunction", *inputs), ("read",))]
     calls += [call for inputs, *_ in AT_THRESHOLD for call in (("begin", *inputs), ("read",))]
+    # Where N is 1, the add is one of 0, which is refused.
     calls += [call for inputs, N, *_ in EXACT_TERMS for call in (("begin", *inputs), ("add", N - 1), ("read",))]
     # This one is read at the largest order alone.
     calls += [("begin", *LATEST), ("add", LARGEST_N), ("add", LARGEST_N - 2), ("read",)]

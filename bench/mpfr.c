@@ -194,6 +194,8 @@ static void next_terms(steps_side *s, unsigned long n, mpfr_rnd_t way)
 
 steps_answer steps_add(steps_session *s, uint16_t count)
 {
+    if (count == 0)
+        return refuse(12);
     if (s->N == 0)
         return refuse(21);
     if (s->N + count > LARGEST_ORDER)

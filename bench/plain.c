@@ -396,6 +396,8 @@ plain_answer plain_begin(plain_session *s, jinthuol_encounter E)
 
 plain_answer plain_add(plain_session *s, uint16_t count)
 {
+    if (count == 0)
+        return refuse(12);
     if (s->N == 0)
         return refuse(21);
     uint32_t N = s->N + count;

@@ -139,6 +139,8 @@ static pair halves(pair a)
 
 plain_answer same_add(plain_session *s, uint16_t count)
 {
+    if (count == 0)
+        return (plain_answer){.refusal = 12};
     if (s->N == 0)
         return (plain_answer){.refusal = 21};
     uint32_t N = s->N + count;

@@ -18,7 +18,7 @@ def begin(R, sx, sy, xm, ym):
 
 
 def add(count):
-    """Kind 2: a 16-bit count of terms."""
+    """Kind 2: a 16-bit count of terms, from 1 on."""
     return struct.pack("<BH", 2, count)
 
 
@@ -87,6 +87,11 @@ SMALLER_SPHERE = 14000, 1900, 1900, 8000, 7500
 # Of no document: the upper end is above 1 at first, and far below it at the advised order; it is above 1 at every order.
 UNBOUNDED_AT_FIRST = 3000, 2000, 1000, 500, 8000
 ALWAYS_UNBOUNDED = 16000, 2000, 2000, 0, 0
+
+# An add with count 0 is refused. Stored scripts may have such adds.
+EMPTY_ADD = add(0)
+# A line break is no kind of record, so what stands after it is not run.
+LEFT_AS_IT_IS = b"\n" + EMPTY_ADD + read()
 
 SCRIPTS = {
     "test-1": begin(*TEST_1) + reads_at(35, 36, 55, 101),
@@ -170,6 +175,23 @@ SCRIPTS = {
     + reads_at(300, 361, 424)
     + begin_conjunction(ALWAYS_UNBOUNDED, 41330, 671)
     + reads_at(101),
+    "stored-script": begin_conjunction(TEST_1, 27386, 642)
+    + EMPTY_ADD
+    + read()
+    + begin_conjunction(OPEN_THEN_ALERT, 38214, 655)
+    + EMPTY_ADD
+    + read()
+    + begin_conjunction(CHAN_1, 25544, 698)
+    + EMPTY_ADD
+    + reads_at(13)
+    + LEFT_AS_IT_IS,
+    "without-empty-adds": begin_conjunction(TEST_1, 27386, 642)
+    + read()
+    + begin_conjunction(OPEN_THEN_ALERT, 38214, 655)
+    + read()
+    + begin_conjunction(CHAN_1, 25544, 698)
+    + reads_at(13)
+    + LEFT_AS_IT_IS,
 }
 
 

@@ -56,7 +56,7 @@ def readings(name, encounter):
     while not brackets.is_close(session) and session.N < LARGEST_N:
         session.add(1)
     answers.append((session.read(), brackets.is_close(session)))
-    session.add(LARGEST_N - session.N)
+    orders.add_up_to(session, LARGEST_N)
     answers.append((session.read(), brackets.is_close(session)))
     return answers
 
@@ -191,7 +191,7 @@ def advised():
             continue
         later = [order + 1, order + rng.randint(2, 200), *([LARGEST_N] if n % 16 == 0 else [])]
         for N in order, *later:
-            session.add(N - session.N)
+            orders.add_up_to(session, N)
             answer = session.read()
             ok = answer.refusal == 0 and brackets.is_close(session)
             checks.check(ok, "advised orders", f"{inputs} at {N}, where {order} is advised: {answer}")

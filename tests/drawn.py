@@ -3,10 +3,10 @@
 import math
 
 import orders
-from edges import MOST_32
+from edges import EMPTY_ADD, MOST_32
 from encounters import MISSES, SIZES
 from exact_series import Encounter, letters
-from records import KINDS, MOST_COUNT, READ, add, packed
+from records import KINDS, MOST_COUNT, READ, add, packed, records
 from reference import LARGEST, LARGEST_2M, LARGEST_N, LARGEST_T, Session, refusal_of
 
 
@@ -176,11 +176,11 @@ def count_for(rng, session):
     return rng.choice((0, 1, 2, 3, rng.randrange(60), rng.randrange(400), rng.randrange(LARGEST_N)))
 
 
-def script(rng, records, terms):
-    """Whole records; the adds that are accepted have at most this many terms, all together."""
+def script(rng, most, terms):
+    """Whole records, so many at most; the adds that are accepted have at most this many terms, all together."""
     written = b""
     session = Session()
-    for _ in range(records):
+    for _ in range(most):
         way = rng.random()
         if way < 0.3 or (session.N == 0 and way < 0.8):
             kind, *inputs = begin_inputs(rng, encounter(rng))
@@ -225,8 +225,12 @@ def random_bodies(rng):
 
 
 def changed(rng):
-    """A script with some bytes put in, left out or changed."""
-    written = bytearray(script(rng, 10, 500))
+    return damaged(rng, script(rng, 10, 500))
+
+
+def damaged(rng, written):
+    """The script with some bytes put in, left out or changed."""
+    written = bytearray(written)
     for _ in range(rng.randrange(1, 4)):
         at = rng.randrange(len(written) + 1)
         way = rng.randrange(3)
@@ -241,3 +245,14 @@ def changed(rng):
 
 # Scripts that operators may write by mistake.
 WRONG = [cut_short, random_bytes, random_bodies, changed]
+
+
+def with_empty_adds(rng, written):
+    """The script with empty adds before some of its records, before what is no record, and at its end."""
+    parts = [written[record.position : record.end] for record in records(written)]
+    return b"".join(EMPTY_ADD * rng.choice((0, 0, 1, 1, 3)) + part for part in (*parts, b""))
+
+
+def small_bytes(rng):
+    """Bytes from 0 to 4, most of them those of an empty add."""
+    return bytes(rng.choices(range(5), (5, 1, 5, 2, 1), k=rng.randrange(60)))

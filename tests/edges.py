@@ -1,4 +1,6 @@
-"""Fractions, encounters, orders and scripts with the answer that documents 01 and 02 give, and decimals of numbers."""
+"""Fractions, encounters, orders and scripts with the answer that documents 01 and 02 give, decimals of numbers, and
+scripts with what is left of them without their empty adds.
+"""
 
 from encounters import (
     ALFANO_3,
@@ -34,7 +36,7 @@ BEGIN_TESTS = (3, 4, 5, 6, 7, 11)
 ANSWERS = {
     *(("begin", answer) for answer in (0, *BEGIN_TESTS)),
     *(("begin_conjunction", answer) for answer in (0, *BEGIN_TESTS, 9)),
-    *(("add", answer) for answer in (0, 21, 22)),
+    *(("add", answer) for answer in (0, 12, 21, 22)),
     *(("read", answer) for answer in (0, 21, 23)),
     *(("advise", answer) for answer in (0, 21)),
     # Request #108: "refuses as a read does".
@@ -402,6 +404,7 @@ AS_DOUBLES = (
 BEGIN_HALF, BEGIN_FULL, BEGIN_LATEST = begin(*HALF), begin(*FULL), begin(*LATEST)
 # One of kind 4.
 BEGIN_OBJECT = begin_conjunction(*HALF, *OBJECTS[0])
+EMPTY_ADD = add(0)
 
 
 def begins():
@@ -423,7 +426,8 @@ def of_refusals_1_and_2():
         if kind not in KINDS:
             yield f"kind {kind}", BEGIN_HALF + bytes([kind]) + READ, "0 begun 1\n21 refused 1\n"
     yield "kind 9 first", b"\x09" + BEGIN_HALF, "0 refused 1\n"
-    for name, record in ("begin", BEGIN_FULL), ("add", add(1)), ("begin of kind 4", BEGIN_OBJECT):
+    kinds = ("begin", BEGIN_FULL), ("add", add(1)), ("add of 0", EMPTY_ADD), ("begin of kind 4", BEGIN_OBJECT)
+    for name, record in kinds:
         for length in range(1, len(record)):
             script = BEGIN_HALF + record[:length]
             yield f"{name} with {length - 1} bytes", script, "0 begun 1\n21 refused 2\n"
@@ -436,23 +440,28 @@ def refused(offset, count, refusal):
 
 
 def of_the_state():
-    """Refusals 21 to 23, and the calls beside them."""
+    """Refusals 12 and 21 to 23, and the calls beside them."""
     for name, script, lines in (
         ("empty input", b"", ""),
         ("read first", READ, "0 refused 21\n"),
-        ("add 0 first", add(0), "0 refused 21\n"),
+        # Request #110: "as 12 after test 2 and before 21".
+        ("add 0 first", EMPTY_ADD + add(1), "0 refused 12\n3 refused 21\n"),
+        ("add 0 after a refused begin", begin(*REFUSED[0]) + EMPTY_ADD, "0 refused 3\n21 refused 12\n"),
         ("the largest count first", add(MOST_COUNT), "0 refused 21\n"),
         ("after a refused begin", begin(*REFUSED[0]) + add(1) + READ, "0 refused 3\n21 refused 21\n24 refused 21\n"),
         ("going on after 21", READ + add(1) + BEGIN_HALF, "0 refused 21\n1 refused 21\n4 begun 1\n"),
         ("going on after 22", BEGIN_HALF + add(MOST_COUNT) + add(1), "0 begun 1\n21 refused 22\n24 added 2\n"),
         ("going on after 23", BEGIN_LATEST + 3 * READ + add(1), "0 begun 1\n" + refused(21, 3, 23) + "24 added 2\n"),
-        ("add 0", BEGIN_HALF + add(0) + add(0), "0 begun 1\n21 added 1\n24 added 1\n"),
-        ("256 is not 1", BEGIN_HALF + add(256), "0 begun 1\n21 added 257\n"),
+        ("going on after 12", BEGIN_HALF + EMPTY_ADD + add(2), "0 begun 1\n21 refused 12\n24 added 3\n"),
+        ("256 is neither 0 nor 1", BEGIN_HALF + add(256), "0 begun 1\n21 added 257\n"),
+        ("65280 is not 0", BEGIN_HALF + add(65280), "0 begun 1\n21 refused 22\n"),
         ("two's complement", begin(8, 1, 1, -8, -1), "0 refused 7\n"),
     ):
         yield name, script, lines
-    largest = f"0 begun 1\n21 added {LARGEST_N}\n24 refused 22\n27 added {LARGEST_N}\n"
-    yield "at the largest order", BEGIN_HALF + add(LARGEST_N - 1) + add(1) + add(0), largest
+    largest = f"0 begun 1\n21 added {LARGEST_N}\n24 refused 22\n27 refused 12\n"
+    yield "at the largest order", BEGIN_HALF + add(LARGEST_N - 1) + add(1) + EMPTY_ADD, largest
+    lines = f"0 begun 1\n21 refused 12\n24 added 3\n27 refused 12\n30 read 3 {HALF_AT_3} 0 0 2\n"
+    yield "add 0 changes nothing", BEGIN_HALF + EMPTY_ADD + add(2) + EMPTY_ADD + READ, lines
 
 
 def of_lengths():
@@ -537,13 +546,88 @@ def of_exact_terms():
             lines += f"{len(script)} read {N} {printed}\n"
             script, before = script + READ, N
         yield f"the exact terms of {tuple(inputs)}", script, lines
-    # An add of 0 and refused records between change nothing, and the next begin starts over.
-    script = begin(*FIVE) + add(3) + add(0) + begin(*REFUSED[0]) + add(LARGEST_N) + add(1) + READ + BEGIN_HALF + READ
-    due = "0 begun 1\n21 added 4\n24 added 4\n27 refused 3\n48 refused 22\n51 added 5\n"
+    # Refused records between change nothing, and the next begin starts over.
+    script = begin(*FIVE) + add(3) + EMPTY_ADD + begin(*REFUSED[0]) + add(LARGEST_N) + add(1) + READ + BEGIN_HALF + READ
+    due = "0 begun 1\n21 added 4\n24 refused 12\n27 refused 3\n48 refused 22\n51 added 5\n"
     due += f"54 read 5 {EXACT_READS[1][2][1]}\n55 begun 1\n76 read 1 {EXACT_READS[0][1][1]}\n"
     yield "exact terms with refused records between", script, due
 
 
 def scripts():
     for part in of_document, of_refusals_1_and_2, of_the_state, of_decimals, of_objects, of_exact_terms, of_lengths:
+        yield from part()
+
+
+# Request #110: scripts, each with its name and what is left of it.
+
+
+def with_empty_adds():
+    """Empty adds at each place, and adds that are not empty."""
+    yield "no byte", b"", b""
+    yield "an empty add alone", EMPTY_ADD, b""
+    script = BEGIN_HALF + add(2) + READ + BEGIN_OBJECT + add(1) + READ
+    yield "no empty add", script, script
+    yield "the first record", EMPTY_ADD + script, script
+    yield "the last record", script + EMPTY_ADD, script
+    between = EMPTY_ADD + BEGIN_HALF + 2 * EMPTY_ADD + add(2) + EMPTY_ADD + READ + EMPTY_ADD + BEGIN_OBJECT + EMPTY_ADD
+    yield "between all records", between + add(1) + 3 * EMPTY_ADD + READ + EMPTY_ADD, script
+    refused = begin(*REFUSED[0])
+    yield "after a refused begin", refused + EMPTY_ADD + add(1) + EMPTY_ADD + READ, refused + add(1) + READ
+    largest = BEGIN_HALF + add(LARGEST_N - 1)
+    yield "at the largest order", largest + EMPTY_ADD + READ, largest + READ
+    # One of the two bytes of a count may be 0.
+    for count in 1, 255, 256, 65280, MOST_COUNT:
+        script = BEGIN_HALF + EMPTY_ADD + add(count) + EMPTY_ADD + add(count)
+        yield f"count {count}", script, BEGIN_HALF + 2 * add(count)
+    # Every count but 0; so many adds fit a script.
+    most = LONGEST_SCRIPT // len(EMPTY_ADD)
+    for first in range(1, MOST_COUNT + 1, most):
+        script = b"".join(map(add, range(first, first + most)))
+        yield f"counts from {first} on", script, script
+    # A body may have the bytes of an empty add in it: at its start, at its end, and throughout.
+    bodies = begin(2, 2, 2, 0, 0), begin_conjunction(*HALF, 1, 512), b"\1\2\0" + 6 * EMPTY_ADD, b"\4\0" + 9 * EMPTY_ADD
+    for record in bodies:
+        yield f"within a body, kind {record[0]}", EMPTY_ADD + record + EMPTY_ADD + READ, record + READ
+
+
+def with_bad_records():
+    """Request #110: "It leaves the byte at a refusal 1 or 2 and everything after it unchanged"."""
+    for kind in range(256):
+        if kind not in KINDS:
+            rest = bytes([kind]) + EMPTY_ADD + READ + 2 * EMPTY_ADD
+            yield f"after kind {kind}", BEGIN_HALF + EMPTY_ADD + rest, BEGIN_HALF + rest
+    yield "kind 0 first", b"\0" + EMPTY_ADD, b"\0" + EMPTY_ADD
+    # The last byte of a count and two bytes after it are those of an empty add.
+    yield "kind 0 after add 512", EMPTY_ADD + add(512) + b"\0\0", add(512) + b"\0\0"
+    yield "kind 9 last", EMPTY_ADD + READ + b"\x09", READ + b"\x09"
+    for record in EMPTY_ADD, add(1), BEGIN_HALF, BEGIN_OBJECT:
+        for length in range(1, len(record)):
+            cut = record[:length]
+            yield f"kind {record[0]} with {length - 1} bytes", READ + EMPTY_ADD + cut, READ + cut
+    # What is there of the body has the bytes of empty adds in it.
+    for cut in b"\1" + 6 * EMPTY_ADD, b"\1\0" + 6 * EMPTY_ADD, b"\4" + 9 * EMPTY_ADD, b"\4\5\5" + 8 * EMPTY_ADD:
+        yield f"{len(cut)} bytes of kind {cut[0]}", EMPTY_ADD + cut, cut
+
+
+def of_new_lengths():
+    """Up to the longest script, and past it, where nothing is written."""
+    most = LONGEST_SCRIPT // len(EMPTY_ADD)
+    for length in LONGEST_SCRIPT - 1, LONGEST_SCRIPT:
+        rest = length - most * len(EMPTY_ADD)
+        yield f"{length} bytes of empty adds and reads", most * EMPTY_ADD + rest * READ, rest * READ
+        yield f"{length} bytes of reads and empty adds", rest * READ + most * EMPTY_ADD, rest * READ
+        yield f"{length} reads", length * READ, length * READ
+        yield f"{length - 3} reads and an empty add", (length - 3) * READ + EMPTY_ADD, (length - 3) * READ
+        yield f"{length} bytes of kind 0", bytes(length), bytes(length)
+    yield "the longest, cut short", most * EMPTY_ADD + EMPTY_ADD[:1], EMPTY_ADD[:1]
+    yield "the longest, and a bad kind", b"\0" + most * EMPTY_ADD, b"\0" + most * EMPTY_ADD
+    for length in LONGEST_SCRIPT + 1, LONGEST_SCRIPT + 2, 2 * LONGEST_SCRIPT, 1_000_000:
+        for record in READ, EMPTY_ADD, b"\0":
+            yield f"{length} bytes of kind {record[0]}", (record * length)[:length], b""
+    # Without its empty adds it would not be too long.
+    yield "too long by an empty add", READ * (LONGEST_SCRIPT - 2) + EMPTY_ADD, b""
+
+
+def dropped():
+    for part in with_empty_adds, with_bad_records, of_new_lengths:
         yield from part()

@@ -1,8 +1,8 @@
 /* Lends a session with words behind it to both begins and to add, and exits with 1 where one of these words was written: so the header's session is as large as
  * the library's, or larger. That it is not larger: tests/texts.py holds its words to those of fields.py, which tests/bindings.py compares with the library's.
  * Also where a read answers another object number or time than those of the last begin that was accepted, or another count of exact terms than the encounter's,
- * where a begin whose 2M is above 1,026 is not refused as 11, also with an object number of 0, and where advise answers another order or refusal than is due, or
- * changes the session.
+ * where a begin whose 2M is above 1,026 is not refused as 11, also with an object number of 0, where an add of 0 is not refused as 12, also with no encounter begun,
+ * and where advise answers another order or refusal than is due, or changes the session.
  * A session, a conjunction, an answer or an advice of the header that has padding does not compile here. */
 #include <string.h>
 
@@ -39,7 +39,7 @@ int main(void)
 
     memcpy(lent.guard, behind, sizeof behind);
     lent.session = jinthuol_empty();
-    if (!advises(&lent.session, 21, 0)) {
+    if (jinthuol_add(&lent.session, 0).refusal != 12 || jinthuol_add(&lent.session, 1).refusal != 21 || !advises(&lent.session, 21, 0)) {
         return 1;
     }
     if (jinthuol_begin_conjunction(&lent.session, conjunction).N != 1 || jinthuol_add(&lent.session, 54).N != 55 || !answers(lent.session, 25544, 1440)) {
@@ -55,6 +55,9 @@ int main(void)
         return 1;
     }
     if (jinthuol_begin(&lent.session, too_long).refusal != 11 || !answers(lent.session, 25544, 1440)) {
+        return 1;
+    }
+    if (jinthuol_add(&lent.session, 0).refusal != 12 || !answers(lent.session, 25544, 1440)) {
         return 1;
     }
     if (!advises(&lent.session, 0, 17)) {

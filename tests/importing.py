@@ -212,10 +212,12 @@ def of_answers(module):
     full = module.Conjunction(module.Encounter(*FULL), object=7, time=8)
     of_advice(module)
     for answer, due in (
+        (session.add(0), "refused 12: add: count is 0"),
         (session.read(), "refused 21: add or read with no encounter begun"),
         (session.begin(module.Encounter(*wrong)), "refused 3: R is 0 or above 10,000,000"),
         (session.begin(module.Encounter(*test_1)), "N = 1"),
         (session.add(54), "N = 55"),
+        (session.add(0), "refused 12: add: count is 0"),
         (session.read(), AT_55),
         (session.begin_conjunction(conjunction._replace(object=0)), "refused 9: kind 4: object number is 0"),
         (session.begin_conjunction(full._replace(object=0)), "refused 11: begin: 2M above 1,026"),
@@ -240,7 +242,7 @@ def of_answers(module):
     both = "lower=Scaled(m=2627622691, e=-35), upper=Scaled(m=2627623074, e=-35)"
     due = f"Answer(refusal=0, N=55, {both}, class_=1, object=0, time=0, exact_terms=1)"
     checks.check(repr(answer) == due, "answers", f"repr: {answer!r}")
-    checks.check(answer == session.read() and answer != session.add(0), "answers", "equal answers")
+    checks.check(answer == session.read() and answer != session.add(1), "answers", "equal answers")
     floats = answer.lower.m * 2.0**-35, answer.upper.m * 2.0**-35
     checks.check(answer.floats == floats, "answers", f"floats: {answer.floats}")
     other = module.Session.empty()
@@ -249,8 +251,7 @@ def of_answers(module):
     ok = answer != other.read() and (other.read().object, other.read().time) == (25544, 1440)
     checks.check(ok and session.kept != other.kept, "answers", f"of an object: {other.read()!r}")
     for inputs, N, exact, _ in EXACT_TERMS:
-        other.begin(module.Encounter(*inputs))
-        other.add(N - 1)
+        begin_and_add(module, other, inputs, N)
         if other.read().has_ends:
             found = other.read().exact_terms, str(other.read()).split(", ")[-1]
             checks.check(found == (exact, f"exact terms: {exact}"), "answers", f"{tuple(inputs)} at {N}: {found}")
@@ -262,7 +263,7 @@ def of_answers(module):
     kept = module.Session.empty().kept, module.Session.empty().kept
     checks.check(kept[0] == kept[1] and kept[0] != session.kept, "answers", "equal sessions")
     # An answer without ends has no class, no floats and no decimals.
-    for answer in session.add(0), module.Session.empty().read():
+    for answer in session.add(1), session.add(0), module.Session.empty().read():
         for property_ in "class_name", "floats", "decimals":
             try:
                 checks.check(False, "answers", f"{property_} of {answer!r}: {getattr(answer, property_)}")
@@ -277,6 +278,13 @@ def of_answers(module):
             checks.check(False, "answers", f"the listing of {given!r}: {module.run(given)}")
         except TypeError:
             pass
+
+
+def begin_and_add(module, session, inputs, N):
+    """Begins an encounter and adds the terms that are missing to order N, if any."""
+    session.begin(module.Encounter(*inputs))
+    if N > 1:
+        session.add(N - 1)
 
 
 def of_advice(module):
@@ -325,8 +333,7 @@ def of_doubles(module):
     ends = module.Doubles(0, session.read().floats[0], None)
     with_words(session, ends, words[0], module.Plotted(0, None), words[1])
     for inputs, N, lower, upper, how in AS_DOUBLES:
-        session.begin(module.Encounter(*inputs))
-        session.add(N - 1)
+        begin_and_add(module, session, inputs, N)
         kept = module.Kept.from_buffer_copy(session.kept)
         exact = [scaled.value(scaled.Scaled(*end)) for end in (lower, upper)]
         found, record = session.read_doubles(), session.read_plot_record().record

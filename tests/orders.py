@@ -16,8 +16,14 @@ def begun(encounter):
 def at_order(encounter, N):
     """A session at order N, for an encounter that is accepted."""
     session = begun(encounter)
-    session.add(N - 1)
+    add_up_to(session, N)
     return session
+
+
+def add_up_to(session, N):
+    """Adds the terms that are missing to order N, if any: an add of 0 is refused."""
+    if N > session.N:
+        session.add(N - session.N)
 
 
 def least_for(M):

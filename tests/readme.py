@@ -1,10 +1,11 @@
 #!/usr/bin/env python3
-"""Runs the commands of README.md and of three examples, advised-order.md, equal-weights.md and plot-records.md, as they
-stand there, and compares what they print.
+"""Runs the commands of README.md and of five examples, advised-order.md, equal-weights.md, plot-records.md,
+stored-script.md and without-empty-adds.md, as they stand there, and compares what they print.
 
     python3 tests/readme.py
 
-After `rt check screen` and `rt staticlib jinthuol`. What is built goes to target/. Exits with 1 where anything differs.
+After `rt check screen`, `rt check drop_empty_adds` and `rt staticlib jinthuol`. What is built goes to target/. Exits
+with 1 where anything differs.
 """
 
 import decimal
@@ -28,7 +29,7 @@ from brackets import as_float
 from checks import Checks
 from encounters import ASTRIDE, DOCUMENTS, FULL, TEST_1
 from exact_series import Encounter
-from markdown import blocks, section
+from markdown import README, blocks, section
 from options import ROOT
 from reference import LONGEST_SCRIPT, REFUSALS, Session, refusal_of
 from scaled import Scaled
@@ -38,6 +39,8 @@ LONGEST_RUN = 120
 # At its advised order the upper end is a little above 1.
 NEXT_TO_1 = Encounter(8, 1, 1, 0, 0)
 LISTING = (ROOT / "examples/test-1.listing").read_text().splitlines()
+# How a command begins that drops empty adds.
+DROP = "./drop_empty_adds examples/"
 
 checks = Checks("readme")
 
@@ -194,7 +197,7 @@ def of_plot_records():
         lines = as_plotted(path.read_bytes())
         is_plotted(f"{program} {path.relative_to(ROOT)}", lines)
         found |= {" ".join(line.split()[1:3]) if "refused" in line else line.split()[1] for line in lines}
-    refusals = {"refused 1:", "refused 7:", "refused 9:", "refused 11:", "refused 21:", "refused 22:", "refused 23:"}
+    refusals = {f"refused {number}:" for number in (1, 7, 9, 11, 12, 21, 22, 23)}
     checks.check(found == {"record", "unbounded", *refusals}, "commands", f"in the examples: {sorted(found)}")
     # A script that is empty, that is cut short, and that is of the greatest length or longer.
     path = ROOT / "target/plotted.script"
@@ -231,6 +234,41 @@ def as_plotted(script):
                 words = " ".join(["record", str(stored.object), *(repr(float(number)) for number in stored[1:])])
             lines.append(f"{record.position} {words}")
     return lines
+
+
+def of_stored_script():
+    """./drop_empty_adds, as README.md and two examples have it, with the script and the listing that are due."""
+    stems = "stored-script", "without-empty-adds"
+    texts, listings = ([(ROOT / f"examples/{stem}.{kind}").read_text() for stem in stems] for kind in ("md", "listing"))
+    stored, new = ((ROOT / f"examples/{stem}.script").read_bytes() for stem in stems)
+    checks.check(new == records.dropped(stored) != stored, "commands", f"{stems[1]}.script is not what is due")
+    path = ROOT / "target/new.script"
+    for text in README, texts[0]:
+        [(commands, due)] = [pair for pair in itertools.pairwise(blocks(text)) if pair[0][0].startswith(DROP)]
+        checks.check(due == listings[1].splitlines(), "commands", f"{commands}\n  text: {due}\n   due: {listings[1]}")
+        path.unlink(missing_ok=True)
+        # The new script goes to target/.
+        prints(" && ".join(commands).replace("new.script", "target/new.script"), due)
+        found = path.read_bytes() if path.exists() else b""
+        checks.check(found == new, "commands", f"another script is written by: {commands[0]}")
+    [commands] = blocks(texts[1])
+    for command in commands:
+        checks.check(command.startswith(DROP), "commands", f"another command: {command}")
+        prints(command, [])
+    # What the texts say of answers and bytes.
+    left, refused = records.parted(stored, listings[0])
+    found = left == records.answers(listings[1]), refused
+    checks.check(found == (True, ["refused 12"] * 3), "commands", f"the answers of the records that are left: {found}")
+    for text, listing in zip(texts, listings):
+        for line in re.findall(r"`(\d+ refused \d+)`", text):
+            checks.check(line in listing.splitlines(), "commands", f"no line of the listing: {line}")
+    for text, words in (
+        (texts[0], f"`{records.add(65).hex(' ')}` adds 65 terms, and `{records.add(16).hex(' ')}` adds 16"),
+        (texts[0], f"The four bytes after it, `{stored[-4:].hex(' ')}`, are not run"),
+        (texts[1], f"Three records, `{records.add(0).hex(' ')}` each, so {len(new)} bytes are left of {len(stored)}"),
+        (texts[1], f"the last five bytes, `{new[-5:].hex(' ')}`"),
+    ):
+        checks.check(words in text, "commands", f"not in the text: {words}")
 
 
 def in_digits(up, q):
@@ -285,6 +323,7 @@ def main():
     of_advised_order()
     of_equal_weights()
     of_plot_records()
+    of_stored_script()
     checks.end()
 
 

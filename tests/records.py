@@ -1,4 +1,4 @@
-"""The records of a script and the program's listing, by documents 01 and 02."""
+"""The records of a script, the program's listing, and a script without its empty adds, by documents 01 and 02."""
 
 import functools
 import struct
@@ -57,6 +57,15 @@ class Record(NamedTuple):
     inputs: tuple = ()
 
     @property
+    def end(self):
+        """Where the next record starts; None after refusal 1 or 2, where all that follows belongs to it."""
+        return None if self.refusal else self.position + 1 + self.kind.body.size
+
+    @property
+    def is_empty_add(self):
+        return self.kind is KINDS[2] and self.inputs == (0,)
+
+    @property
     def encounter(self):
         """The five inputs of a begin, or None."""
         return self.inputs[:5] if self.kind and self.kind.said == "begun" else None
@@ -86,7 +95,17 @@ def records(script):
         yield record
         if record.refusal:
             return
-        position += 1 + record.kind.body.size
+        position = record.end
+
+
+# Request #110: "Stored scripts are passed once through a program that drops such records and copies all others byte by
+# byte. It leaves the byte at a refusal 1 or 2 and everything after it unchanged. For a script that meets 8 it writes
+# nothing."
+def dropped(script):
+    """What is left of a script."""
+    if len(script) > LONGEST_SCRIPT:
+        return b""
+    return b"".join(script[record.position : record.end] for record in records(script) if not record.is_empty_add)
 
 
 # What the program prints.
@@ -121,6 +140,17 @@ def listing(script):
         return "0 refused 8\n"
     session = Session()
     return "".join(line(record, record.called(session)) for record in records(script))
+
+
+def answers(listing):
+    """The answers of a listing, offsets aside."""
+    return [line.split(" ", 1)[1] for line in listing.splitlines()]
+
+
+def parted(script, listing):
+    """The answers in a script's listing: those of the records that are left of it, and those of the dropped ones."""
+    found = [(record.is_empty_add, answer) for record, answer in zip(records(script), answers(listing), strict=True)]
+    return [[answer for is_dropped, answer in found if is_dropped == which] for which in (False, True)]
 
 
 def printed(line):

@@ -1,4 +1,4 @@
-"""The rounded steps, the session and the calls of document 01, as requests #101 to #106, #108 and #109 change them;
+"""The rounded steps, the session and the calls of document 01, as requests #101 to #106 and #108 to #110 change them;
 division.py has #107.
 
 A number of the steps is a triple (m, e, lost), as in rounded.py: so each number's way is what the steps say. An end is
@@ -29,7 +29,8 @@ EXPONENTIAL_CUT = 256
 THRESHOLD_FACTOR = 10_000
 
 # Both tables of refusals, in their order, with what request #104 adds: "Kind 4 joins the accepted kinds in refusal 1."
-# Request #109 has 11 "after test 7 and before 9". Then 10, of request #107, which no record meets.
+# Request #109 has 11 "after test 7 and before 9", request #110 12 "after test 2 and before 21". Then 10, of request
+# #107, which no record meets.
 REFUSALS = {
     8: "script file longer than 65,536 bytes",
     1: "no kind byte, or kind is not 1, 2, 3 or 4",
@@ -41,6 +42,7 @@ REFUSALS = {
     7: "upper t above 64",
     11: "begin: 2M above 1,026",
     9: "kind 4: object number is 0",
+    12: "add: count is 0",
     21: "add or read with no encounter begun",
     22: "add: N + count above 1,024",
     23: "read: 2M above N + 2",
@@ -257,6 +259,9 @@ class Session:
         self.N += count
 
     def add(self, count):
+        # Request #110: "It refuses, as 12 after test 2 and before 21, an add with count 0."
+        if count == 0:
+            return Answer(12)
         if self.N == 0:
             return Answer(21)
         if self.N + count > LARGEST_N:

@@ -10,12 +10,8 @@ decimals are as near these ends as request #103 says, and it counts the exact te
 Exits with 1 where anything differs.
 """
 
-import fcntl
-import os
 import random
-import subprocess
 import sys
-import time
 
 sys.dont_write_bytecode = True
 import brackets
@@ -26,19 +22,18 @@ import fields
 import options
 import orders
 from checks import Checks, shortened
-from edges import BEGIN_FULL, BEGIN_HALF, BEGIN_LATEST, BEGIN_OBJECT, MOST_32
+from edges import BEGIN_FULL, BEGIN_HALF, BEGIN_LATEST, BEGIN_OBJECT, EMPTY_ADD, MOST_32
 from encounters import ALFANO_3, ALFANO_5, AT_THRESHOLD, DOCUMENTS, FULL, HALF, LATEST, SMALL, TEST_1
+from program import Ended, Program, program_option
 from records import READ, add, begin, begin_conjunction, listing, packed, printed, printed_decimals
 from reference import LARGEST, LARGEST_N, LONGEST_SCRIPT, Answer
 
 EXAMPLES = options.ROOT / "examples"
-# Seconds for one script.
-LONGEST_RUN = 60
 REFUSALS = {8, 1, 2} | {answer for _, answer in edges.ANSWERS if answer}
 
 checks = Checks("screen")
 refusals_seen = set()
-program = None
+screen = None
 
 
 def check(ok, what):
@@ -46,67 +41,9 @@ def check(ok, what):
     checks.check(ok, "other checks", what)
 
 
-# Runs of the program.
-
-
-def output(status, stdout, stderr):
-    """What the program wrote, as text; a failed run has its status in the text."""
-    text = stdout.decode("latin-1")
-    if status or stderr:
-        text += f"[exit status {status}] {stderr.decode('latin-1')}"
-    return text
-
-
-def screened(**given):
-    """What `screen` writes for a script: input has its bytes, or stdin is its file."""
-    try:
-        ended = subprocess.run([program], capture_output=True, timeout=LONGEST_RUN, **given)
-    except subprocess.TimeoutExpired:
-        return f"[no end after {LONGEST_RUN} s]"
-    return output(ended.returncode, ended.stdout, ended.stderr)
-
-
-def started():
-    return subprocess.Popen([program], stdin=subprocess.PIPE, stdout=subprocess.PIPE, stderr=subprocess.PIPE)
-
-
-def in_pieces(script, pieces, pause):
-    """What `screen` writes where the script comes in pieces of these lengths, over and over, with pauses."""
-    process = started()
-    at = n = 0
-    try:
-        while at < len(script):
-            length = pieces[n % len(pieces)]
-            os.write(process.stdin.fileno(), script[at : at + length])
-            at, n = at + length, n + 1
-            time.sleep(pause)
-    except BrokenPipeError:
-        # It has ended already.
-        pass
-    process.stdin.close()
-    process.stdin = None
-    stdout, stderr = process.communicate(timeout=LONGEST_RUN)
-    return output(process.returncode, stdout, stderr)
-
-
-def read_slowly(script):
-    """What `screen` writes to a small pipe whose reader is slow."""
-    process = started()
-    if hasattr(fcntl, "F_SETPIPE_SZ"):
-        fcntl.fcntl(process.stdout.fileno(), fcntl.F_SETPIPE_SZ, 4096)
-    process.stdin.write(script)
-    process.stdin.close()
-    found = b""
-    while piece := os.read(process.stdout.fileno(), 3001):
-        found += piece
-        time.sleep(0.001)
-    stderr = process.stderr.read()
-    return output(process.wait(LONGEST_RUN), found, stderr)
-
-
-def compare(name, script, due=None, found=None):
+def compare(name, script, due=None, ended=None):
     """One script: the listing found is the one due, which is that of records.py where none is given. Gives it."""
-    found = screened(input=script) if found is None else found
+    found = (screen.run(input=script) if ended is None else ended).text
     due = listing(script) if due is None else due
     what = f"{name}\nscript: {shortened(script.hex())}\nscreen:\n{shortened(found)}\ndue:\n{shortened(due)}"
     checks.check(found == due, "scripts", what)
@@ -131,13 +68,13 @@ def of_edges():
     calls = READ + add(LARGEST_N - 2) + READ + add(1) + READ
     for record, other in (BEGIN_FULL, FULL._replace(xm=-8)), (BEGIN_LATEST, LATEST._replace(xm=-36)):
         compare(f"xm = {other.xm}", begin(*other) + calls, compare(f"xm = {-other.xm}", record + calls))
-    # Each begin stands between an encounter and an add of 0, which answers the earlier order.
+    # Each begin stands between an encounter at N = 3 and an add of 1, whose answer tells the order before it.
     for refusal, record in edges.begins():
-        found = compare(f"begin {record.hex()}", BEGIN_OBJECT + add(2) + record + add(0) + READ)
+        found = compare(f"begin {record.hex()}", BEGIN_OBJECT + add(2) + record + add(1) + READ)
         at = 32 + len(record)
-        due = [f"32 refused {refusal}", f"{at} added 3"] if refusal else ["32 begun 1", f"{at} added 1"]
+        due = [f"32 refused {refusal}", f"{at} added 4"] if refusal else ["32 begun 1", f"{at} added 2"]
         check(found.splitlines()[2:4] == due, f"begin {record.hex()}: {found}")
-        compare(f"begin {record.hex()} first", record + add(0) + READ)
+        compare(f"begin {record.hex()} first", record + EMPTY_ADD + add(1) + READ)
 
 
 def of_examples():
@@ -155,7 +92,7 @@ def of_examples():
         due = (EXAMPLES / f"{name}.listing").read_text()
         check(compare(path.name, script) == due, f"{name}.listing")
         with path.open("rb") as file:
-            compare(f"{path.name} from a file", script, due, screened(stdin=file))
+            compare(f"{path.name} from a file", script, due, screen.run(stdin=file))
 
 
 def of_long_work():
@@ -210,7 +147,7 @@ def of_cut_short(rng):
     """One script with every kind of record, cut short at every length."""
     script = READ + BEGIN_HALF + READ + add(3) + READ + begin(*edges.REFUSED[0]) + add(258) + READ + add(LARGEST_N - 1)
     script += begin(*TEST_1) + add(34) + READ + add(1) + READ + begin(1, 2, 3, 0, 0) + READ
-    script += begin(*SMALL) + add(0) + READ + begin(*ALFANO_5) + add(30) + READ + BEGIN_FULL + READ
+    script += begin(*SMALL) + EMPTY_ADD + READ + begin(*ALFANO_5) + add(30) + READ + BEGIN_FULL + READ
     script += BEGIN_LATEST + READ
     script += BEGIN_OBJECT + READ + begin_conjunction(*edges.REFUSED_CONJUNCTIONS[-1]) + READ + BEGIN_HALF + READ
     script += drawn.script(rng, 12, 300)
@@ -219,7 +156,7 @@ def of_cut_short(rng):
 
 
 def of_pipes(rng):
-    """Short reads: the program gets what one write brought, and must go on to the end. Then short writes."""
+    """Short reads: the program gets what one write brought, and must go on to the end. Then a slow reader."""
     script = BEGIN_LATEST + READ + add(LARGEST_N - 1) + READ + BEGIN_OBJECT + READ
     script += begin(*ALFANO_3) + add(596) + READ + add(1)
     for name, bytes_, pieces, pause in (
@@ -234,31 +171,23 @@ def of_pipes(rng):
         ("the longest at once", READ * LONGEST_SCRIPT, (LONGEST_SCRIPT,), 0.05),
         ("a drawn script", drawn.script(rng, 40, 2000), (1, 2, 4, 8, 16), 0.001),
     ):
-        compare(f"in pieces: {name}", bytes_, None, in_pieces(bytes_, pieces, pause))
+        compare(f"in pieces: {name}", bytes_, None, screen.in_pieces(bytes_, pieces, pause))
     bytes_ = BEGIN_HALF + READ * 5000
-    compare("a slow reader", bytes_, None, read_slowly(bytes_))
+    compare("a slow reader", bytes_, None, screen.read_slowly(bytes_))
 
 
-# The encounters of documents 000 and 003.
-
-
-UNREAD = "screen: the script could not be read\n"
-UNWRITTEN = "screen: the listing could not be written\n"
-
-
-def streams(stdin, stdout):
-    """What `screen` writes to standard output, where that is read, and to standard error; it has no exit status."""
-    ended = subprocess.run([program], stdin=stdin, stdout=stdout, stderr=subprocess.PIPE, timeout=LONGEST_RUN)
-    return (ended.stdout or b"").decode("latin-1"), ended.stderr.decode("latin-1")
+UNREAD = b"screen: the script could not be read\n"
+UNWRITTEN = b"screen: the listing could not be written\n"
 
 
 def of_failures():
     """A read that fails is not the script's end, and a write that fails is told."""
-    folder = os.open(options.ROOT, os.O_RDONLY)
-    check(streams(folder, subprocess.PIPE) == ("", UNREAD), "standard input is a folder")
-    os.close(folder)
-    with open(EXAMPLES / "test-1.script", "rb") as script, open("/dev/full", "wb") as full:
-        check(streams(script, full) == ("", UNWRITTEN), "standard output is full")
+    check(screen.read_fails() == Ended(0, b"", UNREAD), "standard input is a folder")
+    check(screen.write_fails(BEGIN_HALF + READ) == Ended(0, b"", UNWRITTEN), "standard output is full")
+    check(screen.write_is_cut(BEGIN_HALF + READ, 5) == Ended(0, b"0 beg", UNWRITTEN), "a write is cut short")
+
+
+# The encounters of documents 000 and 003.
 
 
 def of_documents(name, encounter):
@@ -297,13 +226,11 @@ def of_documents(name, encounter):
 
 
 def main():
-    global program
+    global screen
     parser = options.parser("Compares the program screen with records.py.")
-    parser.add_argument("--screen", default=str(options.ROOT / "target/bin/screen"), help="the program")
+    program_option(parser, "screen")
     arguments = parser.parse_args()
-    program = os.path.abspath(arguments.screen)
-    if not os.access(program, os.X_OK):
-        sys.exit(f"screen: no program at {arguments.screen}")
+    screen = Program(arguments.screen)
     rng = random.Random(arguments.seed)
     of_edges()
     of_examples()

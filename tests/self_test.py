@@ -7,7 +7,7 @@ The arithmetic is compared with scaled.py, and every stored number with document
 what is lost on its way. Wrong counts of exact terms are told from the right ones. The decimals are compared with
 request #103 by exact fractions, and its three promises are tested on them. The rounding of doubles is compared with
 Python's own subtraction. The calls, the decimals and the listing are compared with the answers of edges.py, and so are
-the advice and the ends as doubles.
+the advice, the ends as doubles and what is left of scripts without their empty adds.
 """
 
 import copy
@@ -323,8 +323,8 @@ def of_calls(rng):
         checks.check(ok, "calls", what)
 
     empty = Session()
-    for count in 0, MOST_COUNT:
-        call(empty.add(count) == Answer(21) and empty == Session(), f"21 for add {count}")
+    for count, refusal in (0, 12), (1, 21), (256, 21), (MOST_COUNT, 21):
+        call(empty.add(count) == Answer(refusal) and empty == Session(), f"{refusal} for add {count}")
     call(empty.read() == Answer(21) and empty == Session(), "21 for read")
     begins = [("begin", *one) for one in edges.BEGINS]
     begins += [("begin_conjunction", *one) for one in edges.conjunctions()]
@@ -342,11 +342,12 @@ def of_calls(rng):
         read = session.read()
         both = (0, 0) if read.refusal else (due.object, due.time)
         call((read.object, read.time) == both, f"the read after {kind} {inputs}: {read}")
-    session = orders.begun(HALF)
-    kept = copy.deepcopy(session)
-    call(session.add(LARGEST_N) == Answer(22) and session == kept, "22")
-    call(session.add(0) == Answer(N=1) and session == kept, "add 0")
-    call(session.read().refusal == 0 and session == kept, "a read keeps the session")
+    for N in 1, 3, LARGEST_N:
+        session = orders.at_order(HALF, N)
+        kept = copy.deepcopy(session)
+        for count, refusal in (0, 12), (LARGEST_N - N + 1, 22), (MOST_COUNT, 22):
+            call(session.add(count) == Answer(refusal) and session == kept, f"{refusal} for add {count} at {N}")
+        call(session.read().refusal == 0 and session == kept, f"a read keeps the session at {N}")
     for inputs in [drawn.accepted(rng) for _ in range(20)] + [drawn.with_exact_terms(rng) for _ in range(60)] + [FIVE]:
         pieces = orders.begun(inputs)
         for count in 1, 0, 2, LARGEST_N, 1, 1, 33, 62:
@@ -399,7 +400,7 @@ def of_table_of_orders():
 
 
 def of_advice(rng):
-    """The orders of edges.py: at N = 1, after adds and after refused begins, and the session is as it was."""
+    """The orders of edges.py: at N = 1, after adds and after refused calls, and the session is as it was."""
     of_table_of_orders()
     empty = Session()
     for refused in [None, *edges.REFUSED]:
@@ -493,7 +494,7 @@ def of_doubles(rng):
     # No read has equal ends, and no end is too small or too large for a double.
     for inputs in [drawn.accepted(rng) for _ in range(200)]:
         session = orders.begun(inputs)
-        session.add(min(orders.least_of(session) + rng.choice((0, 0, 1, 20)), LARGEST_N) - 1)
+        orders.add_up_to(session, min(orders.least_of(session) + rng.choice((0, 0, 1, 20)), LARGEST_N))
         read, record = session.read(), session.read_plot_record().record
         ends = [scaled.value(Scaled(*end)) for end in (read.lower, read.upper)]
         ok = ends[0] < ends[1] and all(doubles.nearest(end) == end for end in ends)
@@ -518,6 +519,24 @@ def of_scripts():
     checks.check(minus[13:17] == b"\xf8\xff\xff\xff", "listings", "two's complement")
 
 
+def of_dropping(rng):
+    """Request #110: what is left of a script, its answers, and that dropping twice is dropping once."""
+    for name, script, due in edges.dropped():
+        checks.check(records.dropped(script) == due, "dropped", name)
+    tried = [(name, script) for name, script, _ in (*edges.dropped(), *edges.scripts()) if len(script) < 1000]
+    tried += [(f"drawn {n}", drawn.with_empty_adds(rng, drawn.script(rng, 8, 100))) for n in range(60)]
+    tried += [(f"small bytes {n}", drawn.small_bytes(rng)) for n in range(200)]
+    counts = set()
+    for name, script in tried:
+        new = records.dropped(script)
+        kept, gone = records.parted(script, records.listing(script))
+        checks.check(records.answers(records.listing(new)) == kept, "dropped", f"the answers left, {name}")
+        checks.check(set(gone) <= {"refused 12"} and "refused 12" not in kept, "dropped", f"what is dropped, {name}")
+        checks.check(records.dropped(new) == new and (new == script) == (not gone), "dropped", f"once more, {name}")
+        counts.add(len(gone))
+    checks.check(counts >= set(range(8)), "dropped", f"how many are dropped: {counts}")
+
+
 def main():
     rng = random.Random(options.SEED)
     of_arithmetic(rng)
@@ -529,6 +548,7 @@ def main():
     of_advice(rng)
     of_doubles(rng)
     of_scripts()
+    of_dropping(rng)
     checks.end()
 
 

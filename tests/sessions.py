@@ -125,7 +125,8 @@ def made(calls):
         yield made_on(session, call, answer)
 
 
-# The sequences of calls; each starts on an empty session.
+# The sequences of calls; each starts on an empty session. Some of the adds are of 0: these are refused and change
+# nothing, so that the calls after one are made at the order before it.
 
 
 def in_pieces(calls, size):
@@ -331,7 +332,7 @@ SHORT = [
 
 
 def to_largest(rng):
-    """To the largest N in one add, in some, and one by one; then the adds that test 22 refuses."""
+    """To the largest N in one add, in some, and one by one; then the adds that tests 12 and 22 refuse."""
     last = [READ, add(0), add(1), add(MOST_COUNT), READ, REFUSED[0], READ, REFUSED[-1], READ]
     for inputs in HALF, LATEST, FIVE, LARGE, WIDE, THIN, ALFANO_3, drawn.accepted(rng):
         first = [begin_conjunction(*inputs, 25544, 1440), add(LARGEST_N), add(MOST_COUNT), add(LARGEST_N - 1)]
@@ -475,6 +476,11 @@ def main():
     due = {(kind, lent, answer) for kind, answer in edges.ANSWERS for lent in (False, True) if (kind, lent) in NUMBERS}
     if answered != due:
         sys.exit("sessions: answers that no call had, or that none may have: %s" % sorted(answered ^ due))
+    # Request #110: 12 on a session with an encounter and on one without, where advise is refused as 21.
+    met = {(one.call.lent, one.advice.refusal) for one in calls if one.answer.refusal == 12}
+    due = set(itertools.product((False, True), (0, 21)))
+    if met != due:
+        sys.exit("sessions: no empty add with these, lent or not and what advise answers: %s" % sorted(due - met))
     advised, due = {one.advice for one in calls}, {Advice(21), Advice(), *(Advice(order=order) for order in ORDERS)}
     if advised != due:
         sys.exit("sessions: advice that no session had, or that none may have: %s" % sorted(advised ^ due, key=str))

@@ -25,7 +25,7 @@ from checks import Checks
 
 STARS = options.ROOT / "crates/encounter/specs/Stars.antt"
 # The rows of each case, in document 01's order, and of the encounter beside them.
-ROWS = [2, 2, 2, 2, 14, 4, 3, 3, 5, 4, 2, 1, 1, 22]
+ROWS = [2, 2, 2, 2, 14, 4, 3, 3, 5, 4, 2, 2, 1, 1, 22]
 ENCOUNTERS = {
     "E₁": (10, 10, 10, 0, 0),
     "E₂": (8, 1, 1, 8, 0),
@@ -112,7 +112,7 @@ VALUES = {
     "nought": (0, 0),
     "a-half": (1 << 31, -32),
     "an-eighth": (1 << 31, -34),
-    "empty": None,
+    "empty": reference.Session(),
     "reads": lambda session: session.read(),
 }
 INFIX = {

@@ -3,12 +3,12 @@
 
     python3 tests/texts.py
 
-The table of refusals in the definitions, README.md, docs/READING.md, the header, the C example, Rust and Python, and
-the calls that the header names in it; the session's size and the version in each language; the advised orders and the
-ends as doubles in the header; the tables of examples/*.md, whose decimals are those of the listings, and what their
-texts say of orders, lines and bytes; the listing, the bytes and the decimals of README.md; the titles of the documents
-that are cited; the files, the names in them and the must-fail edits that docs/ names. Exits with 1 where anything
-differs.
+The table of refusals in the definitions, README.md, docs/READING.md, the header, the C example, Rust and Python, the
+calls that the header and README.md name in it, and the refusals that are named beside each call; the session's size and
+the version in each language; the advised orders and the ends as doubles in the header; the tables of examples/*.md,
+whose decimals are those of the listings, and what their texts say of orders, lines and bytes; the listing, the bytes and
+the decimals of README.md; the titles of the documents that are cited; the files, the names in them and the must-fail
+edits that docs/ names. Exits with 1 where anything differs.
 """
 
 import math
@@ -57,7 +57,8 @@ TABLES = (
     ("README.md", r"^\| (\d+) \| (.*?) \| \D.*\|.*\|$", ALL),
     ("docs/READING.md", r"^\| (\d+): (.*?) \|", ALL),
     ("bindings/c/jinthuol.h", r"^ \* +(\d+)  (.*?) +\(", ALL),
-    ("bindings/c/example.c", r'case (\d+):\s+return "(.*)";', OF_CALLS),
+    # The example makes no add of 0.
+    ("bindings/c/example.c", r'case (\d+):\s+return "(.*)";', [number for number in OF_CALLS if number != 12]),
     ("bindings/rust/src/refusal.rs", r'^ +(\d+) => "(.*)",$', sorted(ALL)),
     ("bindings/python/jinthuol.py", r'^ +(\d+): "(.*)",$', sorted(ALL)),
     ("crates/exact/specs/Refusals.antt", r"^ *-- (\d+): (.*?)(?:;.*)?$", ALL),
@@ -83,6 +84,42 @@ def of_refused_calls():
             calls = rows.get(str(number), "").replace("both begins", "begin, begin_conjunction")
             calls = "begin, begin_conjunction" if calls == "begin" else calls.replace("begin of kind 4", "begin_conjunction")
             same("refusals", f"{path}, the calls of {number}", sorted(calls.split(", ")), sorted(due))
+
+
+# Numbers in words: '3 to 7, 11 or 9'.
+LIST = r"\d+(?: to \d+)?(?:(?:,| or) \d+(?: to \d+)?)*"
+# Where texts name the refusals of each call, and how the call and its refusals stand there, once all is in one line.
+NAMED_REFUSALS = (
+    (["bindings/c/jinthuol.h"], rf"Refused as (?P<words>{LIST})(?:(?!\*/).)*\*/ \w+ jinthuol_(?P<call>\w+)\("),
+    (
+        ["bindings/rust/src/session.rs", "bindings/rust/src/doubles.rs"],
+        rf"Refused as (?P<words>{LIST})(?:(?! fn ).)* fn (?P<call>\w+)\(",
+    ),
+    (["bindings/python/jinthuol.py"], rf'def (?P<call>\w+)\(self[^)]*\): """(?:(?!""").)*Refused as (?P<words>{LIST})'),
+    (["README.md"], rf"\| `(?P<call>\w+)\(session[^|]*\| [^|]*?or (?:a refusal )?(?P<words>{LIST})(?: and [^|]*)? \|"),
+)
+
+
+def numbers_of(words):
+    """The numbers of such a list."""
+    pairs = re.findall(r"(\d+)(?: to (\d+))?", words)
+    return sorted(n for first, last in pairs for n in range(int(first), int(last or first) + 1))
+
+
+def of_named_refusals():
+    """A text names all refusals of a call, and no other; README.md also all after which a listing goes on."""
+    due = {}
+    for call, refusal in sorted(edges.ANSWERS):
+        if refusal:
+            due.setdefault(call, []).append(refusal)
+    for paths, pattern in NAMED_REFUSALS:
+        text = "\n".join((ROOT / path).read_text() for path in paths)
+        text = re.sub(r"\s*\n\s*(?:\* |/// )?", " ", re.sub(r"`Refused\((\d+)\)`", r"\1", text))
+        named = {found["call"]: numbers_of(found["words"]) for found in re.finditer(pattern, text)}
+        named = {call: numbers for call, numbers in named.items() if call in due}
+        same("refusals", f"the refusals of each call in {' and '.join(paths)}", named, due)
+    words = re.findall(rf"after refusals ({LIST} and {LIST}) it goes on", README)
+    same("refusals", "README.md: after which a listing goes on", list(map(numbers_of, words)), [sorted(OF_CALLS)])
 
 
 # The session's size and the version.
@@ -260,6 +297,9 @@ def of_readme():
     kinds = re.findall(r"^\| (\d) \| [^|]+ \| (\d+) \|", section("A script, byte by byte"), re.M)
     due = [(str(kind), str(1 + of.body.size)) for kind, of in records.KINDS.items()]
     same("README", "the kinds and their bytes", kinds, due)
+    # The count of an add and the object number of kind 4.
+    kinds = re.findall(r"^\| (\d) \| .*\bfrom 1 on\b.*\|$", section("A script, byte by byte"), re.M)
+    same("README", "the kinds with a number that may not be 0", kinds, ["2", "4"])
     bytes_ = blocks(section("A script, byte by byte"))[0][0]
     same("README", "the bytes", bytes_.split(), script[:21].hex(" ").split())
     checks.check(f"`{script[1:5].hex(' ')}` | R = 244 + 1 × 256 = 500" in README, "README", "the bytes of R")
@@ -727,6 +767,7 @@ def main():
     options.parser("Holds texts to document 01 and to the listings.").parse_args()
     of_refusals()
     of_refused_calls()
+    of_named_refusals()
     of_bindings()
     of_decimals()
     of_examples()

@@ -2,7 +2,8 @@
  * the object number and the time of closest approach where the line has them, adds N - 1 terms, reads, and prints the three answers in the words of a
  * listing; after a read both ends once more as doubles; with a refusal its condition. A read has three lines more: where rounding starts, its ends as the plotting
  * tool reads them, and the record that the tool stores.
- * An N of 0 stands for the advised order, which is printed too; where there is none, nothing is added or read.
+ * With an N of 1 no term is added, and there are two answers. An N of 0 stands for the advised order, which is printed too; where there is none, nothing is added
+ * or read.
  *
  *     rt staticlib jinthuol
  *     gcc -std=c99 -I bindings/c bindings/c/example.c target/staticlib/libjinthuol.a -lm -o target/example
@@ -242,7 +243,10 @@ int main(void)
             }
             x[N] = advice.order;
         }
-        print_order("added", jinthuol_add(&session, (uint16_t)(x[N] - 1)));
+        /* an add of 0 would be refused */
+        if (x[N] > 1) {
+            print_order("added", jinthuol_add(&session, (uint16_t)(x[N] - 1)));
+        }
         print_read(jinthuol_read(session));
         print_doubles(jinthuol_read_doubles(session));
         print_plotted(jinthuol_read_plot_record(session));

@@ -29,6 +29,7 @@
  *      7  upper t above 64                                 (both begins)
  *     11  begin: 2M above 1,026                            (both begins)
  *      9  kind 4: object number is 0                       (begin_conjunction)
+ *     12  add: count is 0                                  (add)
  *     21  add or read with no encounter begun              (add, read, advise, read_doubles, read_plot_record)
  *     22  add: N + count above 1,024                       (add)
  *     23  read: 2M above N + 2                             (read, read_doubles, read_plot_record)
@@ -36,8 +37,9 @@
  *
  * 7 in plain words: (xm/sx)^2 + (ym/sy)^2 + (R/sy)^2, which is 2t, is above 128; t is rounded up first. 11: the radius and the miss are both several standard
  * deviations (README.md, 'The five inputs'); a read would be refused as 23 at every order up to 1,024, the largest. 9: `kind 4` is the record of a script that asks
- * for begin_conjunction. 23: too few terms are added for the bound of those left out; a read needs N of at least 2M - 2. 10: the scaled form is that of jinthuol_scaled
- * below. Every end and every quotient has it. No end of a read has so low an e; a quotient's e is at most 32 below its number's. README.md has examples.
+ * for begin_conjunction. 12: where no term is wanted, make no add. 23: too few terms are added for the bound of those left out; a read needs N of at least 2M - 2.
+ * 10: the scaled form is that of jinthuol_scaled below. Every end and every quotient has it. No end of a read has so low an e; a quotient's e is at most 32 below
+ * its number's. README.md has examples.
  *
  * What a caller sees to. No pointer may be null, also where its length is 0. C converts a number to the type of its parameter or field without a word:
  * test first that it fits.
@@ -59,7 +61,7 @@ extern "C" {
 #endif
 
 /* One more with each change of a struct or a function of this header, or of what a function answers. */
-#define JINTHUOL_VERSION 9
+#define JINTHUOL_VERSION 10
 
 /* The five inputs, in whole centimetres: combined radius R, larger standard deviation sx, smaller sy, mean miss xm and ym, along the principal axes of
  * the covariance in the encounter plane. */
@@ -176,7 +178,7 @@ jinthuol_answer jinthuol_begin(jinthuol_session *session, jinthuol_encounter enc
  * or 9, the last where the object number is 0, and then the session is as it was, with the earlier object number and time. Any time is accepted. */
 jinthuol_answer jinthuol_begin_conjunction(jinthuol_session *session, jinthuol_conjunction conjunction);
 
-/* Adds count terms. Refused as 21 or 22, and then the session is as it was. */
+/* Adds count terms, 1 or more. Refused as 12, 21 or 22, the first where count is 0, and then the session is as it was. */
 jinthuol_answer jinthuol_add(jinthuol_session *session, uint16_t count);
 
 /* The bracket at the session's order. Refused as 21 or 23. The upper end has the bound of all terms not yet added in it, so at the first orders that are

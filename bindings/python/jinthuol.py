@@ -100,7 +100,7 @@ from fractions import Fraction
 from typing import NamedTuple, Optional
 
 # JINTHUOL_VERSION of bindings/c/jinthuol.h.
-VERSION = 9
+VERSION = 10
 
 # The condition of each refusal. 1, 2 and 8 are in listings only.
 REFUSALS = {
@@ -115,6 +115,7 @@ REFUSALS = {
     9: "kind 4: object number is 0",
     10: "divide: divisor 0, number not in the scaled form, or e below −1,000,000,000",
     11: "begin: 2M above 1,026",
+    12: "add: count is 0",
     21: "add or read with no encounter begun",
     22: "add: N + count above 1,024",
     23: "read: 2M above N + 2",
@@ -540,7 +541,10 @@ class Session:
         return LIBRARY.jinthuol_begin_conjunction(self.kept, ConjunctionInputs.from_buffer_copy(packed))
 
     def add(self, count):
-        """Adds count terms. Refused as 21 or 22, and then the session is as it was."""
+        """Adds count terms, 1 or more.
+
+        Refused as 12, 21 or 22, the first where count is 0, and then the session is as it was.
+        """
         struct.pack("=H", count)
         return LIBRARY.jinthuol_add(self.kept, count)
 

@@ -134,7 +134,7 @@ pub use script::{run, run_into, Listing};
 pub use session::{Conjunction, Encounter, Session};
 
 /// The version of the library's functions that this crate is for: JINTHUOL_VERSION of bindings/c/jinthuol.h.
-pub const VERSION: u32 = 9;
+pub const VERSION: u32 = 10;
 
 /// The version of the library that this crate was linked with. Where it is not [`VERSION`], [`Session::empty`],
 /// [`run`], [`run_into`], and the decimals and divisions of a [`Scaled`] panic: the structs may be others.

@@ -22,6 +22,7 @@ impl Refusal {
             9 => "kind 4: object number is 0",
             10 => "divide: divisor 0, number not in the scaled form, or e below −1,000,000,000",
             11 => "begin: 2M above 1,026",
+            12 => "add: count is 0",
             21 => "add or read with no encounter begun",
             22 => "add: N + count above 1,024",
             23 => "read: 2M above N + 2",

@@ -27,15 +27,21 @@ const fn of(R: u32, sx: u32, sy: u32, xm: i32, ym: i32) -> Encounter {
 fn at(encounter: Encounter, N: u16) -> Session {
     let mut session = Session::empty();
     assert_eq!(session.begin(encounter), Ok(1), "{encounter:?}");
-    assert_eq!(session.add(N - 1), Ok(N.into()), "{encounter:?}");
-    session
+    added_up(session, N)
 }
 
 /// The same with an object number and a time.
 fn at_object(encounter: Encounter, N: u16, object: u32, time: u32) -> Session {
     let mut session = Session::empty();
     assert_eq!(session.begin_conjunction(Conjunction { encounter, object, time }), Ok(1), "{encounter:?}");
-    assert_eq!(session.add(N - 1), Ok(N.into()), "{encounter:?}");
+    added_up(session, N)
+}
+
+/// The session, just begun, at order N.
+fn added_up(mut session: Session, N: u16) -> Session {
+    if N > 1 {
+        assert_eq!(session.add(N - 1), Ok(N.into()));
+    }
     session
 }
 
@@ -147,7 +153,7 @@ fn exact_terms() {
         for (N, due) in (1..).zip(counts) {
             assert_eq!(session.read().map(|a| a.exact_terms), Ok(due), "{encounter:?} at {N}");
             assert_eq!(session, at(encounter, N), "{encounter:?} at {N}");
-            assert_eq!(session.add(0), Ok(N.into()));
+            assert_eq!(session.add(0), Err(Refusal(12)));
             assert_eq!(session.add(u16::MAX), Err(Refusal(22)));
             assert_eq!(session.add(1), Ok(u32::from(N) + 1));
         }
@@ -191,7 +197,9 @@ fn advice() {
 #[test]
 fn no_encounter_begun() {
     let mut session = Session::empty();
-    for count in [0, 1, LARGEST_ORDER - 1, u16::MAX] {
+    // Test 12 comes first.
+    assert_eq!(session.add(0), Err(Refusal(12)));
+    for count in [1, 256, LARGEST_ORDER - 1, u16::MAX] {
         assert_eq!(session.add(count), Err(Refusal(21)));
     }
     assert_eq!(session.read(), Err(Refusal(21)));
@@ -202,17 +210,15 @@ fn no_encounter_begun() {
 #[test]
 fn orders() {
     let mut session = at(HALF, 1);
-    for count in [LARGEST_ORDER, LARGEST_ORDER + 1, u16::MAX] {
+    for (count, refusal) in [(LARGEST_ORDER, 22), (LARGEST_ORDER + 1, 22), (u16::MAX, 22), (0, 12)] {
         let before = session.clone();
-        assert_eq!(session.add(count), Err(Refusal(22)));
+        assert_eq!(session.add(count), Err(Refusal(refusal)));
         assert_eq!(session.read(), before.read());
         assert_eq!(session, before);
     }
-    assert_eq!(session.add(0), Ok(1));
-    assert_eq!(session, at(HALF, 1));
     assert_eq!(session.add(1023), Ok(1024));
     assert_eq!(session.add(1), Err(Refusal(22)));
-    assert_eq!(session.add(0), Ok(1024));
+    assert_eq!(session.add(0), Err(Refusal(12)));
     assert_eq!(session.read().map(|a| a.N), Ok(1024));
     // Terms in two adds are those of one.
     let mut session = at(TEST_1, 30);
@@ -273,7 +279,8 @@ fn a_clone_is_a_session_of_its_own() {
 fn refusals_in_words() {
     assert_eq!(Refusal(7).to_string(), "refused 7: upper t above 64");
     assert_eq!(Refusal(11).to_string(), "refused 11: begin: 2M above 1,026");
-    for number in [1, 2, 3, 4, 5, 6, 7, 8, 9, 10, 11, 21, 22, 23] {
+    assert_eq!(Refusal(12).to_string(), "refused 12: add: count is 0");
+    for number in [1, 2, 3, 4, 5, 6, 7, 8, 9, 10, 11, 12, 21, 22, 23] {
         assert!(!Refusal(number).to_string().contains("no such"));
     }
     assert_eq!(Refusal(20).to_string(), "refused 20: no such refusal");

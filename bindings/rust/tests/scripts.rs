@@ -137,14 +137,15 @@ fn short_scripts() {
 
 #[test]
 fn longest_scripts() {
-    // An accepted read for each byte, without an object and with the longest numbers; a refused read for each byte; and
-    // encounters.
+    // An accepted read for each byte, without an object and with the longest numbers; a refused read for each byte; empty
+    // adds, and the kind of one more; and encounters.
     let mut reads = vec![1, 10, 0, 0, 0, 10, 0, 0, 0, 10, 0, 0, 0, 0, 0, 0, 0, 0, 0, 0, 0];
     let mut of_object = [&[4], &reads[1..], &[255; 4], &[254, 255, 255, 255]].concat();
     let encounters = [&reads[..], &of_object].concat().repeat(65_536 / 50);
     reads.resize(65_536, 3);
     of_object.resize(65_536, 3);
-    for script in [reads, of_object, vec![3; 65_536], encounters] {
+    let empty_adds = [&[2, 0, 0].repeat(21_845)[..], &[2]].concat();
+    for script in [reads, of_object, vec![3; 65_536], empty_adds, encounters] {
         let listing = run(&script);
         same("a long script", &listing, by_calls(&script).as_bytes());
         for size in [150, 65_536, listing.len() - 1, listing.len() + 149, listing.len() + 150] {

@@ -142,7 +142,7 @@ module _ {table : List ℕ} (o : Orders table) where
       added : call (adds (n - s .N)) s ≡ record { answer = counted n; session = state (conjunction-of s) n }
       added =
           let e : s .N + (n - s .N) ≡ n = omega arith in
-          sym (add-taken s (n - s .N) (not-empty s held) (rw e (omega (arith, lies))) (rw e) (rw e))
+          sym (add-taken s (n - s .N) (λ z. omega arith) (not-empty s held) (rw e (omega (arith, lies))) (rw e) (rw e))
 
       pub adds-up : (call (adds (n - s .N)) s .answer .refusal ≡ 0) × (call (adds (n - s .N)) s .session .N ≡ n) × (advice (call (adds (n - s .N)) s .session) ≡ Order n)
       adds-up = (rw added refl, rw added (unfold state in refl), same (after r (adds (n - s .N))) r (rw added (unfold state in refl)) ∙ a)

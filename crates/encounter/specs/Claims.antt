@@ -44,7 +44,8 @@ pub record Readable (s : Session) : Type 0 where
   pub reached : Reached s
   pub accepted : call reads s .answer .refusal ≡ 0
 
--- request #109: on from the session s, `count` terms lead to an order up to the largest at which a read is accepted, of the same encounter, object number and time
+-- request #109: on from the session s, `count` terms lead to an order up to the largest at which a read is accepted, of the same encounter, object number and time. At
+-- the largest order the count is 0: the add is refused as 12, and the session stays
 pub record ReadLater (s : Session) : Type 0 where
   pub count : ℕ
   pub in-limit : s .N + count ≤ largest-order

@@ -118,6 +118,9 @@ stars =
     -- request #109: N = 1 and add 1,023 is accepted, for 4,095 of document 01, which marks it with no ★; 1,024 gives 22
     ∷ number-is (call (adds 1023) (state (no-object E₇) 1) .answer .refusal) 0
     ∷ number-is (call (adds 1024) (state (no-object E₇) 1) .answer .refusal) 22
+    -- request #110: add 0 gives 12, and so it does with no encounter begun
+    ∷ number-is (call (adds 0) (state (no-object E₇) 1) .answer .refusal) 12
+    ∷ number-is (call (adds 0) empty .answer .refusal) 12
     -- ★ (8, 1, 1, 8, 1): 7.
     ∷ number-is (call (begins E₃) empty .answer .refusal) 7
     -- ★ xm = −8 in place of 8: the same answers.

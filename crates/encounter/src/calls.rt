@@ -174,15 +174,19 @@ fn further(s: Session, count: u32) -> Session
     at_order(s, s.N + count, p, k)
 }
 
-// Adds terms: refused as 21 or 22.
+// Adds terms: refused as 12, 21 or 22.
 pub fn add(s: Session, count: u16) -> Called
     requires { ⌜ Reached s ⌝ }
     ensures { λ r. ⌜ (r ≡ call (adds count) s) × Reached (r .session) ⌝ }
 {
-    if s.N == 0 {
+    let N = s.N;
+    if count == 0 {
+        return refused_on(12, s);
+    }
+    if N == 0 {
         return refused_on(21, s);
     }
-    let n = s.N + (count as u32);
+    let n = N + (count as u32);
     if LARGEST_ORDER < n {
         return refused_on(22, s);
     }

@@ -1,5 +1,5 @@
--- Document 01, 'Script records': both tables of refusals, in their order, each test once, with tests 9 and 11 of requests #104 and #109 of document 02; then test 10 of
--- request #107, of the division. A test is true where it refuses.
+-- Document 01, 'Script records': both tables of refusals, in their order, each test once, with tests 9, 11 and 12 of requests #104, #109 and #110 of document 02; then
+-- test 10 of request #107, of the division. A test is true where it refuses.
 use mathlib.Core.Path.{_≡_}
 use mathlib.Core.Bool.{Bool, true, not, cond, _&&_, _||_}
 use mathlib.Core.List.{List}
@@ -86,6 +86,10 @@ refuses-9 object = eqb object 0
 unfoldable pub test-9 : (earlier object : ℕ) → ℕ
 test-9 earlier object = cond (eqb earlier 0) (cond (refuses-9 object) 9 0) earlier
 
+-- 12: add: count is 0; by request #110, "after test 2 and before 21"
+unfoldable pub refuses-12 : (count : ℕ) → Bool
+refuses-12 count = eqb count 0
+
 -- none of tests 3 to 7 and 11 refuses the encounter
 pub record Accepted (E : Encounter) : Type 0 where
   pub passes : begin-refusal E ≡ 0
@@ -114,7 +118,7 @@ refuses-23 E N = twice-M-above E (N + 2)
 unfoldable pub refusal : History → Request → ℕ
 refusal w (begin E) = begin-refusal E
 refusal w (begin-conjunction C) = test-9 (begin-refusal (C .encounter)) (C .object)
-refusal w (add count) = test-21 w (λ E N. cond (refuses-22 N count) 22 0)
+refusal w (add count) = cond (refuses-12 count) 12 (test-21 w (λ E N. cond (refuses-22 N count) 22 0))
 refusal w read = test-21 w (λ E N. cond (refuses-23 E N) 23 0)
 refusal w (bad r) = r
 

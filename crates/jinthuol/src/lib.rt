@@ -38,7 +38,7 @@ use listing::script::put_lines;
 use listing::script::put_too_long;
 
 // The version of the functions below and their structs; bindings/c/jinthuol.h has the same number.
-pub const VERSION: u32 = 9;
+pub const VERSION: u32 = 10;
 
 // An answer, with its class as a number.
 #[repr(C)]

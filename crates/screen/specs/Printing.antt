@@ -11,8 +11,6 @@ use Rattle.listing.specs.Listing.{listing, too-long}
 use Rattle.listing.specs.declared.script.Piece.{Piece}
 use Rattle.exact.specs.Numbers.{largest-script}
 use Rattle.exact.specs.Refusals.{refuses-8}
-use Rattle.screen.specs.declared.Output.{Output}
-use Rattle.screen.specs.declared.Output.the-variants.{Written, Failed}
 
 -- the bytes of the buffer that a piece is put into; any number from `room` on would do
 abbrev pub piece-size : ℕ
@@ -32,9 +30,3 @@ pub record NextOf (l : List ℕ) (i : ℕ) (s : Session) (buffer : List ℕ) (p 
   pub few : p .ended ≡ false → p .used + room * i ≤ room * p .next
   pub left : p .ended ≡ false → p .next < largest-script
   pub reached : Reached (p .session)
-
--- As many bytes were handed over as are printed, unless a write failed. Which bytes, and that they reach standard output, no contract over the system's write can
--- say: that is tested.
-abbrev pub Handed : List ℕ → Output → Type 0
-Handed text (Written n) = n ≡ length text
-Handed text Failed = Unit {0}

@@ -1,77 +1,24 @@
 // screen: runs a script from standard input and writes what document 01 says of it.
-ghost use Prim.Native.Nat.{_≤_, _<_};
+ghost use Prim.Native.Nat.{_≤_};
 ghost use lib.ListN.{length};
-ghost use Rattle.exact.specs.Numbers.{largest-script};
 ghost use Rattle.encounter.specs.Calls.{Reached};
 ghost use Rattle.listing.specs.Listing.{printed};
-ghost use Rattle.screen.specs.Printing.{NextOf, Handed};
-ghost use Rattle.screen.specs.Reading.{ReadInto, ScriptIn};
+ghost use Rattle.streams.specs.Writing.{Handed};
+ghost use Rattle.screen.specs.Printing.{NextOf};
 use encounter::state::Session;
 use exact::LARGEST_SCRIPT;
-use libc::EINTR;
 use libc::STDERR_FILENO;
-use libc::STDIN_FILENO;
 use libc::STDOUT_FILENO;
 use listing::script::Piece;
 use listing::script::put_lines;
 use listing::script::put_too_long;
-
-// The bytes kept for the script: one more, so that a script that fills them is too long.
-const KEPT: usize = LARGEST_SCRIPT + 1;
+use streams::Input;
+use streams::KEPT;
+use streams::Output;
+use streams::read_script;
 
 // The bytes of a piece of the listing.
 const PIECE: usize = 65536;
-
-// How many times a read that is interrupted is tried.
-const TRIES: u32 = 1000000;
-
-// What reading came to: how many bytes were put at the buffer's start, or a failure.
-enum Input {
-    Bytes(usize),
-    Failed,
-}
-
-// What writing came to: how many bytes were handed over in all, or a failure.
-enum Output {
-    Written(usize),
-    Failed,
-}
-
-// One read of standard input, of no bytes where that is at its end. An interrupted read is tried again; where every try is interrupted, it failed.
-fn read_some(buf: &mut [u8]) -> Input
-    ensures { λ r. ⌜ ReadInto (now (buf .exit)) r ⌝ }
-{
-    let mut tries = TRIES;
-    while 0 < tries {
-        let got = libc::read(STDIN_FILENO, buf);
-        if 0 <= got {
-            return Input::Bytes(io::count(got, buf));
-        }
-        if os::errno() != EINTR {
-            return Input::Failed;
-        }
-        tries -= 1;
-    }
-    Input::Failed
-}
-
-// Reads the script up to its end, or up to the buffer's.
-fn read_script(buf: &mut [u8]) -> Input
-    requires { ⌜ largest-script < length (now buf) ⌝ }
-    ensures { λ r. ⌜ ScriptIn (now (buf .exit)) r ⌝ }
-{
-    let mut done: usize = 0;
-    while done < buf.len() {
-        let Input::Bytes(n) = read_some(&mut buf[done..]) else {
-            return Input::Failed;
-        };
-        if n == 0 {
-            break;
-        }
-        done += n;
-    }
-    Input::Bytes(done)
-}
 
 // A piece of what is left to print from a position on: the line of refusal 8 where the script is too long, and otherwise lines of its listing.
 fn put_piece(script: &[u8], at: usize, s: Session, out: &mut [u8; PIECE]) -> Piece

@@ -14,7 +14,7 @@ use Rattle.exact.specs.Numbers.{largest-length, largest-order}
 use Rattle.exact.specs.Private.Ranges.{tests-3-to-6, Bounds}
 use Rattle.exact.specs.Steps.{lower-end, upper-end}
 use Rattle.exact.specs.Records.{Request, begin, begin-conjunction, add, read, bad}
-use Rattle.exact.specs.Refusals.{History, outside, miss-outside, refuses-3, refuses-4, refuses-5, refuses-6, refuses-7, refuses-11, begin-refusal, Accepted, no-encounter, encounter-at, refuses-22, refuses-23, refusal}
+use Rattle.exact.specs.Refusals.{History, outside, miss-outside, refuses-3, refuses-4, refuses-5, refuses-6, refuses-7, refuses-11, begin-refusal, Accepted, no-encounter, encounter-at, refuses-12, test-21, refuses-22, refuses-23, refusal}
 use Rattle.exact.proofs.Accepted.{bounds}
 use Rattle.encounter.specs.declared.state.Session.{Session}
 use Rattle.encounter.specs.declared.state.Answer.{Answer}
@@ -200,17 +200,27 @@ module _ (E : Encounter) (s : Session) where
 -- ---- add
 
 module _ (s : Session) (count : ℕ) where
-  pub add-21 : {a : Answer} → s .N ≡ 0 → a ≡ refused 21 → record { answer = a; session = s } ≡ call (adds count) s
-  add-21 z f = refused-is s (add count) 21 (unfold refusal in rw (history-none s z)) (λ z. omega arith) f
+  pub add-12 : {a : Answer} → count ≡ 0 → a ≡ refused 12 → record { answer = a; session = s } ≡ call (adds count) s
+  add-12 e f = refused-is s (add count) 12 (unfold refusal refuses-12 in rw (eq-eqb count 0 e)) (λ z. omega arith) f
 
-  module _ (some : s .N ≡ 0 → ⊥) where
-    pub add-22 : {a : Answer} → largest-order < s .N + count → a ≡ refused 22 → record { answer = a; session = s } ≡ call (adds count) s
-    add-22 l f = refused-is s (add count) 22 (unfold refusal refuses-22 in rw (history-some s some, lt-ltb largest-order (s .N + count) l)) (λ z. omega arith) f
+  module _ (more : count ≡ 0 → ⊥) where
+    -- past test 12, the tests of the state decide
+    later : (w : History) (r : ℕ) → test-21 w (λ E N. cond (refuses-22 N count) 22 0) ≡ r → refusal w (add count) ≡ r
+    unfolding refusal refuses-12
+    later w r e = rw (ne-eqb count 0 more) e
 
-    pub add-taken : {a : Answer} {n : Session} → s .N + count ≤ largest-order → a ≡ counted (s .N + count) → n ≡ state (conjunction-of s) (s .N + count)
-        → record { answer = a; session = n } ≡ call (adds count) s
-    add-taken l f g =
-        taken-is s (add count) (unfold refusal refuses-22 in rw (history-some s some, le-ltb largest-order (s .N + count) l)) (rw (history-some s some) f) (rw (history-some s some) g)
+    pub add-21 : {a : Answer} → s .N ≡ 0 → a ≡ refused 21 → record { answer = a; session = s } ≡ call (adds count) s
+    add-21 z f = refused-is s (add count) 21 (later (history-of s) 21 (rw (history-none s z))) (λ z. omega arith) f
+
+    module _ (some : s .N ≡ 0 → ⊥) where
+      pub add-22 : {a : Answer} → largest-order < s .N + count → a ≡ refused 22 → record { answer = a; session = s } ≡ call (adds count) s
+      add-22 l f =
+          refused-is s (add count) 22 (later (history-of s) 22 (unfold refuses-22 in rw (history-some s some, lt-ltb largest-order (s .N + count) l))) (λ z. omega arith) f
+
+      pub add-taken : {a : Answer} {n : Session} → s .N + count ≤ largest-order → a ≡ counted (s .N + count) → n ≡ state (conjunction-of s) (s .N + count)
+          → record { answer = a; session = n } ≡ call (adds count) s
+      add-taken l f g =
+          taken-is s (add count) (later (history-of s) 0 (unfold refuses-22 in rw (history-some s some, le-ltb largest-order (s .N + count) l))) (rw (history-some s some) f) (rw (history-some s some) g)
 
 -- ---- read
 

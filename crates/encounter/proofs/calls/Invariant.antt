@@ -1,27 +1,27 @@
 -- Along every list of calls the session is empty, or it is the steps' state of the encounter and the order that the requests tell. From that, the demands.
-use mathlib.Core.Path.{_≡_, refl, sym, ap}
+use mathlib.Core.Path.{_≡_, refl, sym, _∙_, ap}
 use mathlib.Core.Bool.{false}
 use mathlib.Core.List.{List, [], _∷_}
-use Prim.Native.Nat.{ℕ, suc, _+_, _≤_}
+use Prim.Native.Nat.{ℕ, suc, _+_, _≤_, _<_}
 use mathlib.Core.Logic.{⊎-elim}
 use native.Mathlib.Nat.{eq-zero-or-pos, add-zero}
 use native.Mathlib.Omega.{arith}
-use borrow.Author.Tests.{ltb-false, le-ltb, ne-eqb}
+use borrow.Author.Tests.{ltb-false, ne-eqb}
 use Rattle.exact.specs.declared.Conjunction.{Conjunction}
 use Rattle.exact.specs.Losses.{exact-terms}
 use Rattle.exact.specs.Numbers.{largest-order}
 use Rattle.exact.specs.Records.{Request, begin, begin-conjunction, add, read, bad}
-use Rattle.exact.specs.Refusals.{Accepted, History, no-encounter, encounter-at, refuses-22, refuses-23, refusal}
+use Rattle.exact.specs.Refusals.{Accepted, History, no-encounter, encounter-at, refuses-12, refuses-22, refuses-23, refusal}
 use Rattle.exact.proofs.Accepted.{passed, test-9-passed}
 use Rattle.exact.proofs.Enclosure.{enclosed}
 use Rattle.exact.proofs.Closeness.{ends-close}
 use Rattle.encounter.specs.declared.state.Session.{Session}
 use Rattle.encounter.specs.declared.state.Called.{Called}
-use Rattle.encounter.specs.Session.{empty, state, counted, bracket}
+use Rattle.encounter.specs.Session.{empty, state, conjunction-of, bracket}
 use Rattle.encounter.specs.Private.Held.{Begun}
 use Rattle.encounter.specs.Calls.{history-after, follow, session-of, history-of, outcome, Call, adds, asked, call, Reached, from-empty, after}
 use Rattle.encounter.specs.Enclosure.{Claim, Every, place, places, Encloses, Named, Demands}
-use Rattle.encounter.proofs.calls.Answering.{by-cases, number}
+use Rattle.encounter.proofs.calls.Answering.{by-cases, number, add-12, add-taken}
 
 -- what an accepted begin says of its conjunction
 pub record Begins (C : Conjunction) : Type 0 where
@@ -50,7 +50,9 @@ taken-whole h (begin-conjunction C) z =
     let (p, some) = test-9-passed _ (C .object) z in
     at {N = 1} (record { fine = record { passes = p }; no-time = λ e. absurd (some e) }) (omega arith) (omega arith)
 taken-whole nothing (add count) z = nothing
-taken-whole (at {C} {N} h l u) (add count) z = at {N = N + count} h (omega arith) (ltb-false largest-order (N + count) (passed 21 (refuses-22 N count) 0 z .0))
+taken-whole (at {C} {N} h l u) (add count) z =
+    let y = passed 11 (refuses-12 count) _ z .1 in
+    at {N = N + count} h (omega arith) (ltb-false largest-order (N + count) (passed 21 (refuses-22 N count) 0 y .0))
 taken-whole nothing read z = nothing
 taken-whole (at h l u) read z = at h l u
 taken-whole nothing (bad r) z = nothing
@@ -133,8 +135,13 @@ order-high s r = ⊎-elim (λ z. omega (arith, z)) (λ p. begun s r (λ z. omega
 pub told : {s : Session} → Reached s → session-of (history-of s) ≡ s
 told r = let (w, h) = whole r in rw (history-is h) (sym (session-is h))
 
--- "Count 0 is accepted and does nothing."
-pub add-nothing : (s : Session) → Reached s → (s .N ≡ 0 → ⊥) → call (adds 0) s ≡ record { answer = counted (s .N); session = s }
-unfolding outcome history-of refusal refuses-22
-add-nothing s r z =
-    rw (ne-eqb (s .N) 0 z, add-zero, le-ltb largest-order (s .N) (order-high s r), sym (begun s r z .is))
+-- terms within the limit lead to the state so many on: where there are some the add is taken, and an add of 0 is refused as 12 and changes nothing
+pub led-to : (s : Session) → Reached s → (s .N ≡ 0 → ⊥) → (count : ℕ) → s .N + count ≤ largest-order → call (adds count) s .session ≡ state (conjunction-of s) (s .N + count)
+led-to s r z count l = ⊎-elim none some (eq-zero-or-pos count)
+  where
+    none : count ≡ 0 → call (adds count) s .session ≡ state (conjunction-of s) (s .N + count)
+    none e =
+        ap (λ (c : Called). c .session) (sym (add-12 s count e refl)) ∙ begun s r z .is ∙ rw (e, add-zero)
+
+    some : 0 < count → call (adds count) s .session ≡ state (conjunction-of s) (s .N + count)
+    some p = ap (λ (c : Called). c .session) (sym (add-taken s count (λ e. omega arith) z l refl refl))

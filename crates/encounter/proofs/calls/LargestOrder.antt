@@ -12,12 +12,11 @@ use Rattle.exact.proofs.Accepted.{facts}
 use Rattle.exact.proofs.Stopped.{refused-as-11, before-9, never-read}
 use Rattle.encounter.specs.declared.state.Session.{Session}
 use Rattle.encounter.specs.declared.state.Answer.{Answer}
-use Rattle.encounter.specs.declared.state.Called.{Called}
 use Rattle.encounter.specs.Session.{state, conjunction-of, bracket}
 use Rattle.encounter.specs.Calls.{history-of, begins, begins-conjunction, adds, reads, call, Reached, after}
 use Rattle.encounter.specs.Claims.{ReadLater, NeverRead}
-use Rattle.encounter.proofs.calls.Answering.{number, add-taken, read-taken, read-23}
-use Rattle.encounter.proofs.calls.Invariant.{begun}
+use Rattle.encounter.proofs.calls.Answering.{number, read-taken, read-23}
+use Rattle.encounter.proofs.calls.Invariant.{begun, led-to}
 
 -- a read at order N by test 23
 module _ (C : Conjunction) (N : ℕ) (l : 1 ≤ N) where
@@ -38,9 +37,7 @@ module _ (s : Session) (r : Reached s) (p : 0 < s .N) where
 
   -- the session at the largest order
   at-largest : call (adds (largest-order - s .N)) s .session ≡ state (conjunction-of s) largest-order
-  at-largest =
-      let e = add-taken s (largest-order - s .N) some (omega (arith, all)) refl refl in
-      ap (λ (r : Called). r .session) (sym e) ∙ ap (state (conjunction-of s)) all
+  at-largest = led-to s r some (largest-order - s .N) (omega (arith, all)) ∙ ap (state (conjunction-of s)) all
 
   pub begun-can-be-read : ReadLater s
   unfolding state refuses-11 refuses-23

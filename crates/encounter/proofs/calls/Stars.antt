@@ -15,7 +15,7 @@ use Rattle.exact.specs.Arithmetic.{rounded, rounding, traced}
 use Rattle.exact.specs.Least.{least}
 use Rattle.exact.specs.Losses.{traced-letters, traced-terms, term-lost, operand-lost, either-lost, exact-terms, lossless}
 use Rattle.exact.specs.Steps.{letters, start, first, next-c, next-p, next-v, next-y, next, terms, bound, next-d, tail-term, side-letters, side-start, side-terms, next-power, powers, side-powers, sum-to, exponential-sum, r256, exponential-with-tail, M, d, tail-bound, lower-end, upper-end}
-use Rattle.exact.specs.Refusals.{outside, miss-outside, refuses-3, refuses-4, refuses-5, refuses-6, refuses-7, refuses-11, begin-refusal, refuses-9, test-9, refuses-22, refuses-23, refusal, History, no-encounter, encounter-at}
+use Rattle.exact.specs.Refusals.{outside, miss-outside, refuses-3, refuses-4, refuses-5, refuses-6, refuses-7, refuses-11, begin-refusal, refuses-9, test-9, refuses-12, refuses-22, refuses-23, refusal, History, no-encounter, encounter-at}
 use Rattle.exact.specs.Records.{Request, begin, begin-conjunction, add, read}
 use Rattle.exact.proofs.Mirror.{lower-mirror, upper-mirror, read-mirror, refusal-mirror, exact-mirror}
 use Rattle.encounter.specs.declared.state.Session.{Session}
@@ -73,5 +73,5 @@ mirror-read C N =
     answer-of (history-of (state (mirrored-conjunction C) N)) read (state (mirrored-conjunction C) N) ∙ same-history C N (eqb N 0) ∙ sym (answer-of (history-of (state C N)) read (state C N))
 
 pub stars-hold : All stars
-unfolding stars round pack finish spare inexact _over_ whole _⊕_ _⊗_ _÷_ _↑_ at-most value size span climb square u b zx zy g h X Y t a₀ factorial dot F-without-Y F upto a c with-exponent rounded rounding traced lost traced-letters traced-terms term-lost operand-lost either-lost exact-terms lossless least letters start first next-c next-p next-v next-y next terms bound next-d tail-term side-letters side-start side-terms M d tail-bound above outside miss-outside refuses-3 refuses-4 refuses-5 refuses-6 refuses-7 refuses-11 begin-refusal refuses-22 refuses-23 refusal history-of outcome state bracket series exponential-term exponential sum _⊘_ next-power powers side-powers exponential-sum r256 exponential-with-tail sum-to lower-end upper-end
-stars-hold = (refl, (refl, (refl, (refl, (refl, (refl, (refl, (refl, (record { eq = refl }, (record { eq = refl }, (record { eq = refl }, (record { eq = refl }, (record { eq = refl }, (refl, (refl, (refl, (refl, (refl, (refl, (refl, (refl, (refl, (refl, (record { eq = refl }, (record { eq = refl }, (refl, (refl, (refl, (refl, (refl, (refl, (refl, (record { eq = refl }, (record { eq = refl }, (record { eq = refl }, (refl, (record { eq = refl }, (record { eq = refl }, (refl, (refl, (refl, (refl, (refl, (refl, (mirror-begin E₂ empty, (record { eq = refl }, (record { eq = refl }, (record { eq = refl }, (record { eq = refl }, (record { eq = refl }, (record { eq = refl }, (record { eq = refl }, (record { eq = refl }, (record { eq = refl }, (record { eq = refl }, (record { eq = refl }, (record { eq = refl }, (record { eq = refl }, (record { eq = refl }, (record { eq = refl }, (record { eq = refl }, (refl, (refl, (refl, (refl, (refl, (refl, tt)))))))))))))))))))))))))))))))))))))))))))))))))))))))))))))))))))
+unfolding stars round pack finish spare inexact _over_ whole _⊕_ _⊗_ _÷_ _↑_ at-most value size span climb square u b zx zy g h X Y t a₀ factorial dot F-without-Y F upto a c with-exponent rounded rounding traced lost traced-letters traced-terms term-lost operand-lost either-lost exact-terms lossless least letters start first next-c next-p next-v next-y next terms bound next-d tail-term side-letters side-start side-terms M d tail-bound above outside miss-outside refuses-3 refuses-4 refuses-5 refuses-6 refuses-7 refuses-11 begin-refusal refuses-12 refuses-22 refuses-23 refusal history-of outcome state bracket series exponential-term exponential sum _⊘_ next-power powers side-powers exponential-sum r256 exponential-with-tail sum-to lower-end upper-end
+stars-hold = (refl, (refl, (refl, (refl, (refl, (refl, (refl, (refl, (record { eq = refl }, (record { eq = refl }, (record { eq = refl }, (record { eq = refl }, (record { eq = refl }, (refl, (refl, (refl, (refl, (refl, (refl, (refl, (refl, (refl, (refl, (record { eq = refl }, (record { eq = refl }, (refl, (refl, (refl, (refl, (refl, (refl, (refl, (record { eq = refl }, (record { eq = refl }, (record { eq = refl }, (refl, (record { eq = refl }, (record { eq = refl }, (refl, (refl, (refl, (refl, (refl, (refl, (refl, (refl, (mirror-begin E₂ empty, (record { eq = refl }, (record { eq = refl }, (record { eq = refl }, (record { eq = refl }, (record { eq = refl }, (record { eq = refl }, (record { eq = refl }, (record { eq = refl }, (record { eq = refl }, (record { eq = refl }, (record { eq = refl }, (record { eq = refl }, (record { eq = refl }, (record { eq = refl }, (record { eq = refl }, (record { eq = refl }, (refl, (refl, (refl, (refl, (refl, (refl, tt)))))))))))))))))))))))))))))))))))))))))))))))))))))))))))))))))))))

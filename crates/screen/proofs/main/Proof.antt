@@ -1,11 +1,8 @@
-use native.Mathlib.Omega.{arith}
-use lib.ListN.{length-take}
+use mathlib.Core.Path.{sym}
+use lib.Seq.{length-take-le}
 use borrow.Author.Needs.{needs}
 use Rattle.screen.proofs.main.Statement.{statement}
 use Rattle.screen.proofs.main.Tie as tie
-
-slice-aggregate-read-script : tie.Need-slice-aggregate-read-script
-slice-aggregate-read-script c = search needs
 
 read-script-requires : tie.Need-read-script-requires
 read-script-requires c κs = search needs
@@ -26,12 +23,11 @@ returns : tie.Need-returns
 returns c = search needs
 
 array-share-prefix-script : tie.Need-array-share-prefix-script
-array-share-prefix-script c = (rw (c .before .n .given .1) at (c .before .before .before .before .read-script .ensures)) .0
+array-share-prefix-script c = (rw (c .before .n .given .1) at (c .before .before .before .read-script .ensures)) .0
 
 slice-aggregate-run : tie.Need-slice-aggregate-run
 slice-aggregate-run c =
-    let w = rw (c .before .before .n .given .1) at (c .before .before .before .before .before .read-script .ensures) in
-    simp length-take (omega (arith, w .0))
+    sym (length-take-le _ _ ((rw (c .before .before .n .given .1) at (c .before .before .before .before .read-script .ensures)) .0))
 
 run-requires : tie.Need-run-requires
 run-requires c κs = search needs
@@ -58,7 +54,6 @@ pub main-spec : {M : Type 1} → statement M
 main-spec =
     tie.close
     (tie.spec
-    slice-aggregate-read-script
     read-script-requires
     enum-known-n
     enum-told

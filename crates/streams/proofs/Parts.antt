@@ -4,9 +4,9 @@ use mathlib.Core.List.{List}
 use Prim.Native.Nat.{ℕ, _+_, _-_, _≤_}
 use native.Mathlib.Omega.{arith}
 use lib.ListN.{length, take, drop, length-take, length-drop}
-use Rattle.screen.specs.declared.Input.{Input}
-use Rattle.screen.specs.declared.Input.the-variants.{Bytes}
-use Rattle.screen.specs.Reading.{ReadInto}
+use Rattle.streams.specs.declared.Input.{Input}
+use Rattle.streams.specs.declared.Input.the-variants.{Bytes}
+use Rattle.streams.specs.Reading.{ReadInto}
 
 -- where the part has the buffer's bytes from the index on, those that a read put there lie within the buffer
 pub read-within :

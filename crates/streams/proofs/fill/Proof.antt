@@ -1,12 +1,12 @@
 -- The buffer keeps its length, and the bytes read so far lie within it. Each turn leaves fewer bytes to read.
 use mathlib.Core.Path.{_≡_, _∙_}
 use native.Mathlib.Omega.{arith}
-use Rattle.screen.proofs.Parts.{read-within}
+use Rattle.streams.proofs.Parts.{read-within}
 use Prim.Native.Nat.{_≤_, _-_}
 use lib.ListN.{length}
 use borrow.Author.Needs.{needs}
-use Rattle.screen.proofs.read_script.Statement.{statement}
-use Rattle.screen.proofs.read_script.Tie as tie
+use Rattle.streams.proofs.fill.Statement.{statement}
+use Rattle.streams.proofs.fill.Tie as tie
 
 abbrev Inv-loop : tie.InvT-loop
 Inv-loop buf₀ done₀ buf done = (length buf ≡ length buf₀) × (done ≤ length buf)
@@ -77,8 +77,8 @@ returns-3 c =
     let b = c .before .before .before .before .before .buf .given in
     (omega (arith, b .1, z .inv .1), λ e. omega (arith, e, b .1, z .inv .0, c .before .before .before .before .before .before .before .before .before .before .before .pre))
 
-pub read-script-spec : {M : Type 1} → statement M
-read-script-spec =
+pub fill-spec : {M : Type 1} → statement M
+fill-spec =
     tie.close
     (tie.spec
     Inv-loop

@@ -5,8 +5,8 @@ use mathlib.Core.List.{List}
 use Prim.Native.Nat.{ℕ, _≤_, _<_}
 use lib.ListN.{length}
 use Rattle.exact.specs.Numbers.{largest-script}
-use Rattle.screen.specs.declared.Input.{Input}
-use Rattle.screen.specs.declared.Input.the-variants.{Bytes, Failed}
+use Rattle.streams.specs.declared.Input.{Input}
+use Rattle.streams.specs.declared.Input.the-variants.{Bytes, Failed}
 
 -- the bytes that were read lie within the buffer
 abbrev pub ReadInto : List ℕ → Input → Type 0

@@ -2,8 +2,8 @@
 use mathlib.Core.Path.{_≡_}
 use lib.ListN.{length}
 use borrow.Author.Needs.{needs}
-use Rattle.screen.proofs.read_some.Statement.{statement}
-use Rattle.screen.proofs.read_some.Tie as tie
+use Rattle.streams.proofs.read_some.Statement.{statement}
+use Rattle.streams.proofs.read_some.Tie as tie
 
 abbrev Inv-loop : tie.InvT-loop
 Inv-loop buf₀ tries₀ buf tries = length buf ≡ length buf₀

@@ -1,0 +1,11 @@
+mod SameBytes
+mod Tests
+mod FirstRecords
+mod Cutting
+mod Remaining
+mod Answering
+mod Printing
+mod Lengths
+mod EmptyAdds
+mod Moving
+mod Claiming

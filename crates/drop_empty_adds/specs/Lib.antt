@@ -1,0 +1,4 @@
+pub mod Dropping
+pub mod Answers
+pub mod Claims
+pub mod Private
