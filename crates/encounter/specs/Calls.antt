@@ -16,7 +16,7 @@ use Rattle.encounter.specs.Session.{empty, state, no-object, conjunction
 -- ---- the history
 
 -- after an accepted request: "The encounter of an accepted read is that of the last begin accepted before it. From that begin on, the order N is 1 plus the
--- terms that the accepted calls have added so far; an add adds its count." (An add with no encounter is refused as 21.) A begin of kind 4, of request #104, is a
+-- terms that the accepted calls have added so far; an add adds its count." (An add with no encounter is refused, as 12 or 21.) A begin of kind 4, of request #104, is a
 -- begin too.
 abbrev pub history-after : History → Request → History
 history-after w (begin E) = encounter-at (no-object E) 1
