@@ -7,7 +7,7 @@ use native.Mathlib.Omega.{arith}
 use lib.ListN.{length, take, drop, length-append, length-drop, take-append-drop}
 use lib.Seq.{take-length, drop-length, take-append-seam, drop-append-seam}
 use Rattle.drop_empty_adds.specs.Dropping.{first-length, cut, records}
-use Rattle.drop_empty_adds.proofs.FirstRecords.{stops, Whole, whole-some, stops-length, goes, parts, whole-length}
+use Rattle.drop_empty_adds.proofs.FirstRecords.{stops, Whole, whole-some, stops-length, goes, parts, starts-with}
 
 pub data Cuts : List ℕ → List (List ℕ) → Type 0 where
   end : Cuts [] []
@@ -39,7 +39,7 @@ last-cut k l h e = step k l h ∙ rw (stops-length l e, take-length l, drop-leng
 
 more-cut : (k : ℕ) (b r : List ℕ) → Whole b → cut (suc k) (b ++ r) ≡ b ∷ cut k r
 more-cut k b r w =
-    step k (b ++ r) (omega (arith, length-append b r, whole-some b w)) ∙ rw (whole-length b w r, take-append-seam b r, drop-append-seam b r)
+    step k (b ++ r) (omega (arith, length-append b r, whole-some b w)) ∙ rw (starts-with b w r, take-append-seam b r, drop-append-seam b r)
 
 -- with as many records as there are bytes the cut is whole
 cuts-to : (k : ℕ) (l : List ℕ) → length l ≤ k → Cuts l (cut k l)

@@ -87,9 +87,9 @@ module _ (b : List ℕ) (w : Whole b) where
     pub goes-on : stops (b ++ r) ≡ false
     goes-on = on (b ++ r) same-kind longer
 
-    pub whole-length : first-length (b ++ r) ≡ length b
+    pub starts-with : first-length (b ++ r) ≡ length b
     unfolding first-length
-    whole-length = rw (goes-on, same-kind) (sym (w .size))
+    starts-with = rw (goes-on, same-kind) (sym (w .size))
 
     -- what it asks for, whatever follows
     pub asks-the-same : request-at (b ++ r) 0 ≡ request-at b 0

@@ -13,26 +13,16 @@ use Rattle.drop_empty_adds.specs.Dropping.{first-length}
 use Rattle.drop_empty_adds.specs.Private.Steps.{whole-length}
 use Rattle.drop_empty_adds.proofs.FirstRecords.{stops-length}
 
-module _ (kind : ℕ) where
-  pub length-1 : kind ≡ 1 → 21 ≡ whole-length kind
-  unfolding whole-length is-kind body-length
-  length-1 e = rw e
+pub lengths : (whole-length 1 ≡ 21) × (whole-length 2 ≡ 3) × (whole-length 3 ≡ 1) × (whole-length 4 ≡ 29)
+unfolding whole-length is-kind body-length
+lengths = (refl, refl, refl, refl)
 
-  pub length-2 : kind ≡ 2 → 3 ≡ whole-length kind
-  unfolding whole-length is-kind body-length
-  length-2 e = rw e
+pub of-kind : {k n : ℕ} → whole-length k ≡ n → (kind : ℕ) → kind ≡ k → n ≡ whole-length kind
+of-kind f kind e = rw e (sym f)
 
-  pub length-3 : kind ≡ 3 → 1 ≡ whole-length kind
-  unfolding whole-length is-kind body-length
-  length-3 e = rw e
-
-  pub length-4 : kind ≡ 4 → 29 ≡ whole-length kind
-  unfolding whole-length is-kind body-length
-  length-4 e = rw e
-
-  pub no-length : (kind ≡ 1 → ⊥) → (kind ≡ 2 → ⊥) → (kind ≡ 3 → ⊥) → (kind ≡ 4 → ⊥) → 0 ≡ whole-length kind
-  unfolding whole-length is-kind
-  no-length a b c d = rw (ne-eqb kind 1 a, ne-eqb kind 2 b, ne-eqb kind 3 c, ne-eqb kind 4 d)
+pub no-length : (kind : ℕ) → (kind ≡ 1 → ⊥) → (kind ≡ 2 → ⊥) → (kind ≡ 3 → ⊥) → (kind ≡ 4 → ⊥) → 0 ≡ whole-length kind
+unfolding whole-length is-kind
+no-length kind a b c d = rw (ne-eqb kind 1 a, ne-eqb kind 2 b, ne-eqb kind 3 c, ne-eqb kind 4 d)
 
 module _ (l : List ℕ) where
   pub of-none : length l ≡ 0 → 0 ≡ first-length l

@@ -11,6 +11,7 @@ use lib.ListN.{length, take, drop, set, getD, length-drop, length-append, take-a
 use lib.Seq.{paste, paste-suc, drop-paste, take-paste, length-paste, drop-drop, getD-drop, length-take-le, take-all}
 use Rattle.exact.specs.Numbers.{largest-script}
 use Rattle.exact.specs.Refusals.{refuses-8}
+use Rattle.listing.proofs.Putting.{dropped as agree-later}
 use Rattle.drop_empty_adds.specs.Dropping.{first-length, records, is-empty-add, dropped, InPlace}
 use Rattle.drop_empty_adds.specs.Private.Steps.{KeptOrDropped}
 use Rattle.drop_empty_adds.proofs.Cutting.{end, are-records, records-step, first-some}
@@ -20,7 +21,7 @@ use Rattle.drop_empty_adds.proofs.Remaining.{remaining, dropped-is, not
 later : (a b : List ℕ) (n k : ℕ) → n ≤ k → drop n a ≡ drop n b → drop k a ≡ drop k b
 later a b n k h e =
     let s : k ≡ n + (k - n) = omega arith in
-    rw s (sym (drop-drop (k - n) n a) ∙ ap (drop (k - n)) e ∙ drop-drop (k - n) n b)
+    rw s (agree-later a b n (k - n) e)
 
 -- ---- bytes moved down
 

@@ -23,7 +23,7 @@ use Rattle.listing.proofs.Lines.{listing-end, listing-step}
 use Rattle.drop_empty_adds.specs.Dropping.{first-length, records}
 use Rattle.drop_empty_adds.specs.Answers.{answered, answers, lines-from}
 use Rattle.drop_empty_adds.proofs.SameBytes.{by-kind}
-use Rattle.drop_empty_adds.proofs.FirstRecords.{stops, Whole, whole-some, asks, goes-on, goes-alone, whole-length, asks-the-same, kind-at, asks-there, next-there}
+use Rattle.drop_empty_adds.proofs.FirstRecords.{stops, Whole, whole-some, asks, goes-on, goes-alone, starts-with, asks-the-same, kind-at, asks-there, next-there}
 use Rattle.drop_empty_adds.proofs.Cutting.{Cuts, end, last, more, cuts}
 
 -- ---- which records end a script
@@ -95,7 +95,7 @@ lines-are (more {b} {r} {bs} w c) l i s e =
     let d : call (takes l i) s ≡ call (takes b 0) s = called l i s b (ap (λ (x : List ℕ). request-at x 0) e ∙ asks-the-same b w r) in
     let k : getD l i 0 ≡ getD b 0 0 = kind-at l i ∙ ap (λ (x : List ℕ). getD x 0 0) e ∙ List·getD-append b r 0 0 (whole-some b w) in
     let n : next-at l i ≡ i + length b =
-    next-there l i (ap stops e ∙ goes-on b w r) ∙ ap (λ (x : List ℕ). i + first-length x) e ∙ ap (λ (n : ℕ). i + n) (whole-length b w r) in
+    next-there l i (ap stops e ∙ goes-on b w r) ∙ ap (λ (x : List ℕ). i + first-length x) e ∙ ap (λ (n : ℕ). i + n) (starts-with b w r) in
     let after : drop (i + length b) l ≡ r = sym (drop-drop (length b) i l) ∙ ap (drop (length b)) e ∙ drop-append-seam b r in
     listing-step l i s (omega (arith, length-drop i l, ap length e, length-append b r, whole-some b w))
     ∙ rw (d, k, n, whole-goes-on b s w)
