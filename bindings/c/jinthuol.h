@@ -178,7 +178,7 @@ jinthuol_answer jinthuol_begin(jinthuol_session *session, jinthuol_encounter enc
  * or 9, the last where the object number is 0, and then the session is as it was, with the earlier object number and time. Any time is accepted. */
 jinthuol_answer jinthuol_begin_conjunction(jinthuol_session *session, jinthuol_conjunction conjunction);
 
-/* Adds count terms, 1 or more. Refused as 12, 21 or 22, the first where count is 0, and then the session is as it was. */
+/* Adds count terms, 1 or more. Refused as 12, 21 or 22, as 12 where count is 0; a refused add leaves the session as it was. */
 jinthuol_answer jinthuol_add(jinthuol_session *session, uint16_t count);
 
 /* The bracket at the session's order. Refused as 21 or 23. The upper end has the bound of all terms not yet added in it, so at the first orders that are

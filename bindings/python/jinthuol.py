@@ -543,7 +543,7 @@ class Session:
     def add(self, count):
         """Adds count terms, 1 or more.
 
-        Refused as 12, 21 or 22, the first where count is 0, and then the session is as it was.
+        Refused as 12, 21 or 22, as 12 where count is 0; a refused add leaves the session as it was.
         """
         struct.pack("=H", count)
         return LIBRARY.jinthuol_add(self.kept, count)

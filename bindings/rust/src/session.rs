@@ -32,8 +32,8 @@ impl Session {
         Ok(accepted(ffi::jinthuol_begin_conjunction(self, conjunction))?.N)
     }
 
-    /// Adds terms of the series, 1 or more. Gives the order N after it. Refused as 12, 21 or 22, the first where the
-    /// count is 0, and then the session is as it was.
+    /// Adds terms of the series, 1 or more. Gives the order N after it. Refused as 12, 21 or 22, as 12 where count is 0; a
+    /// refused add leaves the session as it was.
     pub fn add(&mut self, count: u16) -> Result<u32, Refusal> {
         Ok(accepted(ffi::jinthuol_add(self, count))?.N)
     }

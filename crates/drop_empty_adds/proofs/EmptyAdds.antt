@@ -1,16 +1,17 @@
 -- Whether a first record is an add of count 0, as code finds it.
 use mathlib.Core.Path.{_≡_, refl, sym, _∙_}
-use mathlib.Core.Bool.{Bool, true, false, _||_}
+use mathlib.Core.Bool.{Bool, true, false}
 use mathlib.Core.List.{List}
 use Prim.Native.Nat.{ℕ, _≤_, _<_}
 use native.Mathlib.Omega.{arith}
 use borrow.Author.Tests.{eq-eqb, ne-eqb, eqb-true, eqb-false, lt-ltb, le-ltb, lt-leb}
 use lib.Dec.{eqb}
 use lib.ListN.{length, getD}
-use Rattle.exact.specs.Records.{is-kind, body-length, begin-at, u16-at, conjunction-at, Request, begin, begin-conjunction, add, read, bad, request-of}
+use Rattle.exact.specs.Records.{is-kind, body-length, begin-at, u16-at, conjunction-at, Request, begin, begin-conjunction, read, bad, request-of}
 use Rattle.exact.specs.Refusals.{refuses-1, refuses-2, refuses-12, request-at}
 use Rattle.listing.proofs.Lengths.{either}
 use Rattle.drop_empty_adds.specs.Dropping.{adds-nothing, is-empty-add}
+use Rattle.drop_empty_adds.proofs.Tests.{or-true}
 use Rattle.drop_empty_adds.proofs.FirstRecords.{stops, stops-kept}
 
 module _ (l : List ℕ) where
@@ -31,11 +32,7 @@ module _ (l : List ℕ) where
   of-few h = go (eqb (getD l 0 0) 2) refl
     where
       short : getD l 0 0 ≡ 2 → stops l ≡ true
-      short e = rw (e, lt-ltb (length l) 3 h) (other (refuses-1 l 0))
-        where
-          other : (t : Bool) → t || true ≡ true
-          other true = refl
-          other false = refl
+      short e = rw (e, lt-ltb (length l) 3 h) (or-true (refuses-1 l 0))
 
       go : (t : Bool) → eqb (getD l 0 0) 2 ≡ t → false ≡ is-empty-add l
       go true e = sym (stops-kept l (short (eqb-true (getD l 0 0) 2 e)))

@@ -11,10 +11,11 @@ use lib.ListN.{length, take, drop, getD, length-append, length-drop, List·getD-
 use lib.Seq.{getD-drop, getD-take, length-take-le}
 use Rattle.exact.specs.Records.{is-kind, body-length, bad, request-of}
 use Rattle.exact.specs.Refusals.{refuses-1, refuses-2, request-at}
+use Rattle.exact.proofs.Accepted.{neither}
 use Rattle.records.specs.RecordCall.{next-at}
 use Rattle.drop_empty_adds.specs.Dropping.{first-length, adds-nothing, is-empty-add}
 use Rattle.drop_empty_adds.proofs.SameBytes.{same-request}
-use Rattle.drop_empty_adds.proofs.Tests.{or-false, same-ltb, same-leb}
+use Rattle.drop_empty_adds.proofs.Tests.{same-ltb, same-leb}
 
 -- refused as 1 or 2
 abbrev pub stops : List ℕ → Bool
@@ -34,7 +35,7 @@ pub stops-length : (l : List ℕ) → stops l ≡ true → first-length l ≡ le
 unfolding first-length
 stops-length l z = rw z
 
--- it is no add
+-- it is not dropped
 pub stops-kept : (l : List ℕ) → stops l ≡ true → is-empty-add l ≡ false
 unfolding is-empty-add request-at
 stops-kept l z = go (refuses-1 l 0) (refuses-2 l 0) z
@@ -50,15 +51,15 @@ stops-kept l z = go (refuses-1 l 0) (refuses-2 l 0) z
 pub goes : (l : List ℕ) → stops l ≡ false → (is-kind (getD l 0 0) ≡ true) × (1 + body-length (getD l 0 0) ≤ length l)
 unfolding refuses-1 refuses-2
 goes l z =
-    let (a, b) = or-false (refuses-1 l 0) (refuses-2 l 0) z in
-    let (c, d) = or-false (leb (length l) 0) (not (is-kind (getD l 0 0))) a in
+    let (a, b) = neither (refuses-1 l 0) (refuses-2 l 0) z in
+    let (c, d) = neither (leb (length l) 0) (not (is-kind (getD l 0 0))) a in
     (not-false _ d, omega (arith, ltb-false (length l) (0 + 1 + body-length (getD l 0 0)) b))
 
 pub asks : (l : List ℕ) → stops l ≡ false → request-at l 0 ≡ request-of (getD l 0 0) l 1
 unfolding request-at
-asks l z = let (a, b) = or-false (refuses-1 l 0) (refuses-2 l 0) z in rw (a, b)
+asks l z = let (a, b) = neither (refuses-1 l 0) (refuses-2 l 0) z in rw (a, b)
 
--- the first record of a list, and what follows it
+-- the first record of such a list is whole
 pub parts : (l : List ℕ) → stops l ≡ false → Whole (take (first-length l) l)
 unfolding first-length
 parts l z =

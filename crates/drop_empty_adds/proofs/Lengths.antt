@@ -10,7 +10,8 @@ use lib.ListN.{length, getD}
 use Rattle.exact.specs.Records.{is-kind, body-length}
 use Rattle.exact.specs.Refusals.{refuses-1, refuses-2}
 use Rattle.drop_empty_adds.specs.Dropping.{first-length}
-use Rattle.drop_empty_adds.specs.Private.Steps.{whole-length}
+use Rattle.drop_empty_adds.specs.Private.OneRecord.{whole-length}
+use Rattle.drop_empty_adds.proofs.Tests.{or-true}
 use Rattle.drop_empty_adds.proofs.FirstRecords.{stops-length}
 
 pub lengths : (whole-length 1 ≡ 21) × (whole-length 2 ≡ 3) × (whole-length 3 ≡ 1) × (whole-length 4 ≡ 29)
@@ -56,11 +57,7 @@ module _ (l : List ℕ) where
       of-short h =
           by-known (length l ≡ first-length l)
           (λ _ z. absurd (some z))
-          (λ _ m. sym (stops-length l (rw (lt-ltb (length l) (0 + 1 + body-length (getD l 0 0)) (omega arith)) (other (refuses-1 l 0)))))
-        where
-          other : (t : Bool) → t || true ≡ true
-          other true = refl
-          other false = refl
+          (λ _ m. sym (stops-length l (rw (lt-ltb (length l) (0 + 1 + body-length (getD l 0 0)) (omega arith)) (or-true (refuses-1 l 0)))))
 
       pub of-whole : n ≤ length l → n ≡ first-length l
       unfolding first-length refuses-1 refuses-2

@@ -4,6 +4,8 @@ mod FirstRecords
 mod Cutting
 mod Remaining
 mod Answering
+mod RefusalNumbers
+mod JustTwelve
 mod Printing
 mod Lengths
 mod EmptyAdds

@@ -13,7 +13,7 @@ use Rattle.exact.specs.Numbers.{largest-script}
 use Rattle.exact.specs.Refusals.{refuses-8}
 use Rattle.listing.proofs.Putting.{dropped as agree-later}
 use Rattle.drop_empty_adds.specs.Dropping.{first-length, records, is-empty-add, dropped, InPlace}
-use Rattle.drop_empty_adds.specs.Private.Steps.{KeptOrDropped}
+use Rattle.drop_empty_adds.specs.Private.OneRecord.{KeptOrDropped}
 use Rattle.drop_empty_adds.proofs.Cutting.{end, are-records, records-step, first-some}
 use Rattle.drop_empty_adds.proofs.Remaining.{remaining, dropped-is, nothing-left}
 

@@ -5,12 +5,10 @@ use mathlib.Core.List.{List, _++_}
 use Prim.Native.Nat.{ℕ, _+_}
 use native.Mathlib.Omega.{arith}
 use lib.Dec.{eqb, T}
-use lib.ListN.{length, drop, getD, length-drop, length-append, List·getD-append}
-use lib.Seq.{drop-drop, drop-append-seam}
-use Rattle.exact.specs.declared.Encounter.{Encounter}
-use Rattle.exact.specs.declared.Conjunction.{Conjunction}
+use lib.ListN.{length, take, take-append-drop, drop, getD, length-drop, length-append, List·getD-append}
+use lib.Seq.{take-length, drop-drop, drop-append-seam}
 use Rattle.exact.specs.Records.{is-kind, u16-at, begin-at, conjunction-at, Request, bad, request-of}
-use Rattle.exact.specs.Refusals.{refuses-1, refuses-2, refuses-3, refuses-4, refuses-5, refuses-6, refuses-7, refuses-8, refuses-9, refuses-11, refuses-12, refuses-22, refuses-23, request-at, begin-refusal, test-9, History, no-encounter, encounter-at, refusal}
+use Rattle.exact.specs.Refusals.{refuses-1, refuses-2, refuses-8, refuses-12, request-at, History, refusal}
 use Rattle.encounter.specs.declared.state.Session.{Session}
 use Rattle.encounter.specs.Session.{empty}
 use Rattle.encounter.specs.Calls.{history-of, outcome, takes, call}
@@ -20,10 +18,11 @@ use Rattle.listing.specs.Line.{line}
 use Rattle.listing.specs.Listing.{is-final, listing, printed}
 use Rattle.listing.proofs.Lengths.{either}
 use Rattle.listing.proofs.Lines.{listing-end, listing-step}
-use Rattle.drop_empty_adds.specs.Dropping.{first-length, records}
+use Rattle.drop_empty_adds.specs.Dropping.{first-length}
 use Rattle.drop_empty_adds.specs.Answers.{answered, answers, lines-from}
 use Rattle.drop_empty_adds.proofs.SameBytes.{by-kind}
-use Rattle.drop_empty_adds.proofs.FirstRecords.{stops, Whole, whole-some, asks, goes-on, goes-alone, starts-with, asks-the-same, kind-at, asks-there, next-there}
+use Rattle.drop_empty_adds.proofs.RefusalNumbers.{OfEach, of-begin, of-conjunction, of-add, of-read}
+use Rattle.drop_empty_adds.proofs.FirstRecords.{stops, stops-length, parts, Whole, whole-some, asks, goes-on, goes-alone, starts-with, asks-the-same, kind-at, asks-there, next-there}
 use Rattle.drop_empty_adds.proofs.Cutting.{Cuts, end, last, more, cuts}
 
 -- ---- which records end a script
@@ -32,36 +31,17 @@ use Rattle.drop_empty_adds.proofs.Cutting.{Cuts, end, last, more, cuts}
 abbrev GoesOn : ℕ → Type 0
 GoesOn r = eqb r 1 || eqb r 2 ≡ false
 
-begin-goes-on : (E : Encounter) → GoesOn (begin-refusal E)
-unfolding begin-refusal
-begin-goes-on E =
-    either GoesOn (refuses-3 E) refl
-    (either GoesOn (refuses-4 E) refl
-    (either GoesOn (refuses-5 E) refl
-    (either GoesOn (refuses-6 E) refl
-    (either GoesOn (refuses-7 E) refl
-    (either GoesOn (refuses-11 E) refl refl)))))
-
-conjunction-goes-on : (C : Conjunction) → GoesOn (test-9 (begin-refusal (C .encounter)) (C .object))
-unfolding test-9
-conjunction-goes-on C =
-    let r = begin-refusal (C .encounter) in
-    either GoesOn (eqb r 0) (either GoesOn (refuses-9 (C .object)) {x = 9} {y = 0} refl refl) (begin-goes-on (C .encounter))
+each-goes-on : OfEach GoesOn
+each-goes-on = (refl, refl, refl, refl, refl, refl, refl, refl, refl, refl, refl)
 
 kinds-go-on : (w : History) (l : List ℕ) (kind : ℕ) → is-kind kind ≡ true → GoesOn (refusal w (request-of kind l 1))
 unfolding refusal request-of
-kinds-go-on no-encounter l =
-    by-kind (λ kind. GoesOn (refusal no-encounter (request-of kind l 1)))
-    (begin-goes-on (begin-at l 1))
-    (either GoesOn (refuses-12 (u16-at l 1)) refl refl)
-    refl
-    (conjunction-goes-on (conjunction-at l 1))
-kinds-go-on (encounter-at C N) l =
-    by-kind (λ kind. GoesOn (refusal (encounter-at C N) (request-of kind l 1)))
-    (begin-goes-on (begin-at l 1))
-    (either GoesOn (refuses-12 (u16-at l 1)) refl (either GoesOn (refuses-22 N (u16-at l 1)) refl refl))
-    (either GoesOn (refuses-23 (C .encounter) N) refl refl)
-    (conjunction-goes-on (conjunction-at l 1))
+kinds-go-on w l =
+    by-kind (λ kind. GoesOn (refusal w (request-of kind l 1)))
+    (of-begin GoesOn each-goes-on (begin-at l 1))
+    (either GoesOn (refuses-12 (u16-at l 1)) refl (of-add GoesOn each-goes-on w (u16-at l 1)))
+    (of-read GoesOn each-goes-on w)
+    (of-conjunction GoesOn each-goes-on (conjunction-at l 1))
 
 whole-goes-on : (b : List ℕ) (s : Session) → Whole b → is-final (call (takes b 0) s .answer) ≡ false
 unfolding is-final
@@ -82,6 +62,19 @@ stops-finally l s z = go (refuses-1 l 0) (refuses-2 l 0) z
 -- a record's call, told by its bytes
 called : (l : List ℕ) (i : ℕ) (s : Session) (b : List ℕ) → request-at (drop i l) 0 ≡ request-at b 0 → call (takes l i) s ≡ call (takes b 0) s
 called l i s b e = ap (λ (q : Request). outcome (history-of s) q s) (asks-there l i ∙ e)
+
+-- the bytes of a first record ask for what it asks
+alone : (w : List ℕ) → request-at w 0 ≡ request-at (take (first-length w) w) 0
+alone w = go (stops w) refl
+  where
+    go : (t : Bool) → stops w ≡ t → request-at w 0 ≡ request-at (take (first-length w) w) 0
+    go true e = ap (λ (x : List ℕ). request-at x 0) (sym (ap (λ (n : ℕ). take n w) (stops-length w e) ∙ take-length w))
+    go false e =
+        let n = first-length w in
+        ap (λ (x : List ℕ). request-at x 0) (sym (take-append-drop n w)) ∙ asks-the-same (take n w) (parts w e) (drop n w)
+
+pub own-bytes : (l : List ℕ) (i : ℕ) (s : Session) → call (takes l i) s ≡ call (takes (take (first-length (drop i l)) (drop i l)) 0) s
+own-bytes l i s = called l i s (take (first-length (drop i l)) (drop i l)) (alone (drop i l))
 
 -- the lines of the records from position i on
 pub lines-are : {w : List ℕ} {bs : List (List ℕ)} → Cuts w bs → (l : List ℕ) (i : ℕ) (s : Session) → drop i l ≡ w → listing l i s ≡ lines-from i (answered s bs)

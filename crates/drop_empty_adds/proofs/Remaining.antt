@@ -60,7 +60,7 @@ module _ (l : List ℕ) (z : refuses-8 l ≡ false) where
   pub new-records : records (dropped l) ≡ remaining (records l)
   new-records = ap records dropped-is ∙ are-records (remain (cuts l))
 
-  still-short : refuses-8 (dropped l) ≡ false
+  pub still-short : refuses-8 (dropped l) ≡ false
   unfolding refuses-8
   still-short =
       let h = ltb-false largest-script (length l) z in

@@ -1,13 +1,13 @@
--- Tests that come out the same.
-use mathlib.Core.Path.{_≡_, refl, sym, subst}
+-- Tests: one of two that is true, and two that come out the same.
+use mathlib.Core.Path.{_≡_, refl, sym}
 use mathlib.Core.Bool.{Bool, true, false, _||_}
 use Prim.Native.Nat.{ℕ, _≤_, _<_}
 use borrow.Author.Tests.{lt-ltb, le-ltb, ltb-true, ltb-false, le-leb, lt-leb, leb-true, leb-false}
-use lib.Dec.{ltb, leb, T}
+use lib.Dec.{ltb, leb}
 
-pub or-false : (a b : Bool) → a || b ≡ false → (a ≡ false) × (b ≡ false)
-or-false true b z = absurd (subst T z tt)
-or-false false b z = (refl, z)
+pub or-true : (t : Bool) → t || true ≡ true
+or-true true = refl
+or-true false = refl
 
 module _ (a b c d : ℕ) where
   pub same-ltb : (a < b → c < d) → (b ≤ a → d ≤ c) → ltb a b ≡ ltb c d

@@ -1,2 +1,2 @@
 -- What only private functions and proofs need. A reader of the claims needs none of it.
-pub mod Steps
+pub mod OneRecord

@@ -5,7 +5,7 @@ ghost use lib.ListN.{length, drop};
 ghost use lib.Seq.{paste};
 ghost use Rattle.drop_empty_adds.specs.Dropping.{first-length, is-empty-add, InPlace};
 ghost use Rattle.drop_empty_adds.specs.Claims.{Claims};
-ghost use Rattle.drop_empty_adds.specs.Private.Steps.{whole-length, KeptOrDropped};
+ghost use Rattle.drop_empty_adds.specs.Private.OneRecord.{whole-length, KeptOrDropped};
 use exact::LARGEST_SCRIPT;
 
 // The bytes of a whole record of this kind, or 0 where there is no such kind.

@@ -1,5 +1,5 @@
--- Document 01, 'Encounters on each edge': the cases marked ★, one table, as request #109 changes them; and beside them an encounter at the limits of tests 11 and 22, the exact
--- letters of one encounter with unequal sigmas and two misses, which no ★ encounter has, with some of its rounded numbers and its ends at N = 3; and the counts of
+-- Document 01, 'Encounters on each edge': the cases marked ★, one table, as request #109 changes them; and beside them an encounter at the limits of tests 11 and 22, the adds of 0 of request
+-- #110, the exact letters of one encounter with unequal sigmas and two misses, which no ★ encounter has, with some of its rounded numbers and its ends at N = 3; and the counts of
 -- request #105. `All stars` is one statement (claim `star-cases`).
 use mathlib.Core.Path.{_≡_}
 use mathlib.Core.Bool.{true, false}

@@ -2,7 +2,6 @@
 use mathlib.Core.Path.{_∙_, ap}
 use native.Mathlib.Omega.{arith}
 use Prim.Native.Nat.{_-_, _≤_}
-use denote.Ref.{now}
 use lib.ListN.{length}
 use Rattle.exact.specs.Numbers.{largest-script}
 use Rattle.drop_empty_adds.specs.Dropping.{first-length}
