@@ -16,11 +16,12 @@ use Rattle.exact.specs.Private.Round.{round}
 use Rattle.exact.specs.Refusals.{refuses-10}
 use Rattle.exact.proofs.Rounding.{round-is}
 use Rattle.exact.proofs.Operations.{over-none}
+use Rattle.exact.proofs.Form.{form-is, form-of}
 use Rattle.encounter.specs.Mantissas.{mantissa-over}
 use Rattle.division.specs.declared.Divided.{Divided}
 use Rattle.division.specs.Division.{divided, Says}
 use Rattle.division.specs.Claims.{Claims}
-use Rattle.division.proofs.Refusing.{form-is, form-of, passed-is}
+use Rattle.division.proofs.Refusing.{passed-is}
 use Rattle.division.proofs.Moving.{moved, moves, still-fits}
 use Rattle.division.proofs.Never.{never-met}
 use Rattle.division.proofs.Ends.{divides-ends}

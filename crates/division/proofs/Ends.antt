@@ -3,12 +3,13 @@ use mathlib.Core.Path.{_≡_, sym}
 use mathlib.Core.Bool.{Bool, true, false}
 use Prim.Native.Nat.{ℕ, _≤_, _<_}
 use native.Mathlib.Omega.{arith}
-use lib.Dec.{lit<}
+use lib.Dec.{lit<, lit≤}
 use Rattle.exact.specs.declared.Scaled.{Scaled}
 use Rattle.exact.specs.Fraction.{Frac, _≼_, _÷_}
 use Rattle.exact.specs.Scaled.{value, OnSide}
 use Rattle.exact.specs.Refusals.{refuses-10}
 use Rattle.exact.proofs.Fractions.{≼-trans, div-mono}
+use Rattle.exact.proofs.Ranges.{widen}
 use Rattle.exact.proofs.Rounding.{round-is}
 use Rattle.encounter.specs.declared.state.Session.{Session}
 use Rattle.encounter.specs.Session.{conjunction-of, bracket}
@@ -43,7 +44,7 @@ divides-ends {s} r k p = record {
     e = let f = read-of r in rw (f .is) (encloses (conjunction-of s) (f .fine) (f .low) (f .passes))
 
     below : refuses-10 (call reads s .answer .lower) k ≡ false
-    below = in-range-passes k p (lower-end-fine s held (e .lower-is))
+    below = in-range-passes k p (widen (lit≤ tt) (lower-end-fine s held (e .lower-is)))
 
     above : refuses-10 (call reads s .answer .upper) k ≡ false
-    above = in-range-passes k p (upper-end-fine s held (e .upper-is))
+    above = in-range-passes k p (widen (lit≤ tt) (upper-end-fine s held (e .upper-is)))

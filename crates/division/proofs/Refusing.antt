@@ -1,27 +1,24 @@
--- Test 10, case by case, and the form of a scaled number.
+-- Test 10, case by case.
 use mathlib.Core.Path.{_≡_, refl}
-use mathlib.Core.Bool.{Bool, true, false, not, cond, _&&_, _||_}
-use mathlib.Core.Logic.{inl, inr, ⊎-elim}
+use mathlib.Core.Bool.{Bool, true, false, not, _||_}
+use mathlib.Core.Logic.{⊎-elim}
 use Prim.Native.Nat.{ℕ, suc, pred, _^_, _≤_, _<_}
 use native.Mathlib.Omega.{arith}
-use lib.Dec.{ltb, leb, eqb}
+use lib.Dec.{ltb, eqb}
 use lib.IntN.{ℤ, pos, negsuc, natAbs}
 use lib.Signed.{ltZ}
-use borrow.Author.Tests.{eq-eqb, ne-eqb, eqb-true, eqb-false, lt-ltb, le-ltb, le-leb, lt-leb, leb-true, ltb-true, ltb-false, not-false}
+use borrow.Author.Tests.{eq-eqb, ne-eqb, eqb-true, eqb-false, lt-ltb, le-ltb, lt-leb, ltb-false, not-false}
 use Rattle.exact.specs.declared.Scaled.{Scaled}
 use Rattle.exact.specs.Integer.{posPart, negPart}
 use Rattle.exact.specs.Numbers.{lowest-exponent}
-use Rattle.exact.specs.Scaled.{nought, Normal, IsScaled}
+use Rattle.exact.specs.Scaled.{Normal, IsScaled}
 use Rattle.exact.specs.Private.Ranges.{InRange}
 use Rattle.exact.specs.Refusals.{scaled-form, refuses-10}
 use Rattle.exact.proofs.Fractions.{lt-or-le}
-use Rattle.exact.proofs.Accepted.{neither, both-true}
+use Rattle.exact.proofs.Accepted.{neither}
+use Rattle.exact.proofs.Form.{no-size, normal-form, form-of, form-is}
 
 -- ---- exponents
-
-no-size : (e : ℤ) → natAbs e ≡ 0 → e ≡ pos 0
-no-size (pos n) h = rw h
-no-size (negsuc n) h = let f : ⊥ = omega (arith, h) in absurd f
 
 pub low-is : (e : ℤ) → ltZ e (negsuc (pred lowest-exponent)) ≡ ltb lowest-exponent (negPart e)
 low-is (pos n) = refl
@@ -30,29 +27,6 @@ low-is (negsuc n) =
     (λ l. rw (lt-ltb (pred lowest-exponent) n l, lt-ltb lowest-exponent (suc n) (omega (arith, l))))
     (λ l. rw (le-ltb (pred lowest-exponent) n l, le-ltb lowest-exponent (suc n) (omega (arith, l))))
     (lt-or-le (pred lowest-exponent) n)
-
--- ---- the form
-
-normal-form : (x : Scaled) → Normal 32 x → scaled-form x ≡ true
-unfolding scaled-form
-normal-form x n = rw (ne-eqb (x .m) 0 (λ z. omega (arith, n .low)), le-leb (2 ^ 31) (x .m) (omega (arith, n .low)), lt-ltb (x .m) (2 ^ 32) (n .high))
-
-pub form-of : (x : Scaled) → IsScaled 32 x → scaled-form x ≡ true
-form-of x (inl z) = rw z (unfold scaled-form in refl)
-form-of x (inr n) = normal-form x n
-
-pub form-is : (x : Scaled) → scaled-form x ≡ true → IsScaled 32 x
-unfolding scaled-form
-form-is x h = go (eqb (x .m) 0) refl h
-  where
-    go : (t : Bool) → eqb (x .m) 0 ≡ t → cond t (eqb (natAbs (x .e)) 0) (leb (2 ^ 31) (x .m) && ltb (x .m) (2 ^ 32)) ≡ true → IsScaled 32 x
-    go true e k =
-        let m : x .m ≡ 0 = eqb-true (x .m) 0 e in
-        let z : x .e ≡ pos 0 = no-size (x .e) (eqb-true (natAbs (x .e)) 0 k) in
-        inl (λ i. record { m = m i; e = z i })
-    go false e k =
-        let (l, u) = both-true (leb (2 ^ 31) (x .m)) (ltb (x .m) (2 ^ 32)) k in
-        inr (record { low = omega (arith, leb-true (2 ^ 31) (x .m) l); high = ltb-true (x .m) (2 ^ 32) u })
 
 -- ---- the test
 

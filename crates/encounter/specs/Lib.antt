@@ -4,4 +4,5 @@ pub mod Enclosure
 pub mod Stars
 pub mod Claims
 pub mod Mantissas
+pub mod Sums
 pub mod Private

@@ -14,6 +14,7 @@ pub mod Unrounded
 pub mod Majorant
 pub mod Parallel
 pub mod Accepted
+pub mod Form
 pub mod Stopped
 pub mod Enclosure
 pub mod LowerEnds

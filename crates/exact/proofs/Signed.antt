@@ -1,13 +1,13 @@
 -- Signed values: which integers fit, and how the code's tests and conversions read them. The laws with no width in their names are about an i32.
 use mathlib.Core.Path.{_≡_, refl, sym, subst}
 use mathlib.Core.Bool.{true, false}
-use Prim.Native.Nat.{ℕ, _+_, _^_, _≤_, _<_, zero-le}
+use Prim.Native.Nat.{ℕ, suc, pred, _+_, _^_, _≤_, _<_, zero-le}
 use native.Mathlib.Omega.{arith}
 use lib.Pow.{pow-pos}
-use lib.Dec.{T, ltb→lt}
+use lib.Dec.{T, ltb, ltb→lt, eqb}
 use lib.IntN.{ℤ, pos, negsuc, _+ℤ_, _-ℤ_, natAbs}
 use lib.Signed.{mag, ltZ, nonNeg}
-use borrow.Author.Tests.{lt-ltb}
+use borrow.Author.Tests.{lt-ltb, le-ltb, ltb-true, ltb-false, ne-eqb}
 use mir.Syntax.{Width, w32, w64}
 use mir.Facts.{toZ-ofZ}
 use mir.Val.{SFits, hbits, toZ, ofZ}
@@ -66,3 +66,17 @@ nonnegative (negsuc n) h = subst T h tt
 pub nonnegative-abs : (z : ℤ) → ltZ z (pos 0) ≡ false → natAbs z ≡ posPart z
 nonnegative-abs (pos n) h = refl
 nonnegative-abs (negsuc n) h = absurd (subst T h tt)
+
+-- tests of a magnitude: below -k, or else above k
+pub far-below : (k : ℕ) (z : ℤ) → 0 < k → ltZ z (negsuc (pred k)) ≡ true → true ≡ ltb k (natAbs z)
+far-below k (pos n) p h = absurd (subst T (sym h) tt)
+far-below k (negsuc n) p h = let l = ltb-true (pred k) n h in sym (lt-ltb k (suc n) (omega arith))
+
+pub far-above : (k : ℕ) (z : ℤ) → 0 < k → ltZ z (negsuc (pred k)) ≡ false → ltZ (pos k) z ≡ ltb k (natAbs z)
+far-above k (pos n) p h = refl
+far-above k (negsuc n) p h = let l = ltb-false (pred k) n h in sym (le-ltb k (suc n) (omega arith))
+
+-- only zero has the bits of zero
+pub zero-bits : (e : ℤ) → SFits w32 e → eqb (ofZ w32 e) 0 ≡ eqb (natAbs e) 0
+zero-bits (pos n) h = refl
+zero-bits (negsuc n) h = rw (ne-eqb (ofZ w32 (negsuc n)) 0 (λ z. omega (arith, h .sfits, z)), ne-eqb (natAbs (negsuc n)) 0 (λ z. omega (arith, z)))

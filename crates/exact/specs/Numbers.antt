@@ -25,6 +25,13 @@ largest-script = 65536
 abbrev pub lowest-exponent : ℕ
 lowest-exponent = 1000000000
 
+-- request #111: the days of a week, tested by 13, and the places of a day, tested by 24
+abbrev pub days-a-week : ℕ
+days-a-week = 7
+
+abbrev pub places-a-day : ℕ
+places-a-day = 8
+
 -- the class: the threshold is 1 over this. Alert is at the threshold or above, clear is below it
 abbrev pub threshold-odds : ℕ
 threshold-odds = 10000

@@ -1,5 +1,5 @@
 -- Document 01, 'Script records': both tables of refusals, in their order, each test once, with tests 9, 11 and 12 of requests #104, #109 and #110 of document 02; then
--- test 10 of request #107, of the division. A test is true where it refuses.
+-- tests 13 and 24 of request #111, of the week, and test 10 of request #107, of the division. A test is true where it refuses.
 use mathlib.Core.Path.{_≡_}
 use mathlib.Core.Bool.{Bool, true, not, cond, _&&_, _||_}
 use mathlib.Core.List.{List}
@@ -12,7 +12,7 @@ use Rattle.exact.specs.declared.Conjunction.{Conjunction}
 use Rattle.exact.specs.declared.Scaled.{Scaled}
 use Rattle.exact.specs.Integer.{negPart}
 use Rattle.exact.specs.Fraction.{whole, _⊗_, above}
-use Rattle.exact.specs.Numbers.{largest-length, largest-t, largest-order, largest-script, lowest-exponent}
+use Rattle.exact.specs.Numbers.{largest-length, largest-t, largest-order, largest-script, lowest-exponent, days-a-week, places-a-day}
 use Rattle.exact.specs.Scaled.{value}
 use Rattle.exact.specs.Steps.{side-letters, M}
 use Rattle.exact.specs.Records.{is-kind, body-length, Request, begin, begin-conjunction, add, read, bad, request-of}
@@ -121,6 +121,20 @@ refusal w (begin-conjunction C) = test-9 (begin-refusal (C .encounter)) (C .obje
 refusal w (add count) = cond (refuses-12 count) 12 (test-21 w (λ E N. cond (refuses-22 N count) 22 0))
 refusal w read = test-21 w (λ E N. cond (refuses-23 E N) 23 0)
 refusal w (bad r) = r
+
+-- ---- request #111: "A bracket enters the week only through a read of a session, into the next empty place of the day named."
+
+-- 13: enter: day number above 6; by request #111, "before the read's own tests". The days are 0 to 6
+unfoldable pub refuses-13 : (day : ℕ) → Bool
+refuses-13 day = leb days-a-week day
+
+-- 24: enter: a ninth bracket for a day; by request #111, "after those tests". The places are 0 to 7; place is the next empty one, or 8 where the day has none
+unfoldable pub refuses-24 : (place : ℕ) → Bool
+refuses-24 place = leb places-a-day place
+
+-- the number under which an entry is refused, or 0: 13, the read's 21 and 23, 24
+unfoldable pub entry-refusal : History → (day place : ℕ) → ℕ
+entry-refusal w day place = cond (refuses-13 day) 13 (cond (eqb (refusal w read) 0) (cond (refuses-24 place) 24 0) (refusal w read))
 
 -- ---- request #107: "It refuses, as 10 and with zero as the result, a divisor of 0, a number not in the scaled form, or one whose e is below −1,000,000,000."
 

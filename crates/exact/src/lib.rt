@@ -21,6 +21,10 @@ pub const LARGEST_SCRIPT: usize = 65536;
 
 pub const LOWEST_EXPONENT: i32 = -1000000000;
 
+pub const DAYS_A_WEEK: usize = 7;
+
+pub const PLACES_A_DAY: usize = 8;
+
 // "Inputs are whole centimetres: combined radius R, larger standard deviation sx, smaller sy, mean miss xm and ym."
 #[repr(C)]
 pub struct Encounter {

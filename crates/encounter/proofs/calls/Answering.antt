@@ -33,16 +33,6 @@ pub outside-some : (n : ℕ) → (n ≡ 0 → ⊥) → ltb largest-length n ≡ 
 unfolding outside
 outside-some n z = rw (ne-eqb n 0 z)
 
-pub far-below : (z : ℤ) → ltZ z (negsuc (pred largest-length)) ≡ true → true ≡ miss-outside z
-unfolding miss-outside
-far-below (pos n) h = absurd (subst T (sym h) tt)
-far-below (negsuc n) h = let l = ltb-true (pred largest-length) n h in sym (lt-ltb largest-length (suc n) (omega arith))
-
-pub far-above : (z : ℤ) → ltZ z (negsuc (pred largest-length)) ≡ false → ltZ (pos largest-length) z ≡ miss-outside z
-unfolding miss-outside
-far-above (pos n) h = refl
-far-above (negsuc n) h = let l = ltb-false (pred largest-length) n h in sym (le-ltb largest-length (suc n) (omega arith))
-
 -- tests 3 to 6, up to the first that refuses
 module _ (E : Encounter) (rest : ℕ) where
   pub test-3 : outside (E .R) ≡ true → 3 ≡ tests-3-to-6 E rest

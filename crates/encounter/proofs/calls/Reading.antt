@@ -115,7 +115,7 @@ module _ (s : Session) (b : Begun s) where
   unfolding upper-end tail-bound
   upper-end-is ey ex er = er ∙ rw (ex, ey, ← sum-double true 32 (s .upper .terms .sum) (s .d) (lit< tt), upper-sum-is, lower-exponential-is, d-is)
 
-  pub lower-end-fine : {x : Scaled} → x ≡ lower-end E (s .N) → InRange 32 (2 ^ 28) x
+  pub lower-end-fine : {x : Scaled} → x ≡ lower-end E (s .N) → InRange 32 (2 ^ 27) x
   unfolding lower-end
   lower-end-fine e =
       rw (e, ← lower-sum-is)
@@ -127,7 +127,7 @@ module _ (s : Session) (b : Begun s) where
       whole-range : (x : Scaled) → x ≡ round true 32 (value (s .upper .exponential) ⊕ value (double (s .r256))) → InRange 32 (largest-exponent + 3) x
       whole-range x e = rw e (sum-range true 32 (lit< tt) (widen (lit≤ tt) upper-exponential-fine) (double-range r256-fine))
 
-  pub upper-end-fine : {x : Scaled} → x ≡ upper-end E (s .N) → InRange 32 (2 ^ 28) x
+  pub upper-end-fine : {x : Scaled} → x ≡ upper-end E (s .N) → InRange 32 (2 ^ 27) x
   unfolding upper-end
   upper-end-fine e = rw (e, ← lower-exponential-is) (widen (lit≤ tt) (per-range true 32 (lit< tt) (total formed) lower-exponential-fine lower-exponential-normal))
     where

@@ -1,5 +1,7 @@
 use mathlib.Core.Path.{_≡_, sym, _∙_, ap}
 use mathlib.Core.Bool.{Bool, not}
+use lib.Dec.{lit≤}
+use Rattle.exact.proofs.Ranges.{widen}
 use Rattle.encounter.proofs.calls.Invariant.{begun, demands}
 use Rattle.encounter.proofs.steps.Progressing.{exact-is}
 use Rattle.encounter.proofs.calls.Reading.{not-not, lower-end-fine, upper-end-fine}
@@ -31,7 +33,7 @@ classify-requires : tie.Need-classify-requires
 classify-requires c κs =
     let z = c .before .before .before .before .before .before in
     let b = begun (z .args .s) (z .pre) (c .before .before .before .before .if1 .left) in
-    (lower-end-fine (z .args .s) b (c .before .lower-end .ensures), upper-end-fine (z .args .s) b (c .upper-end .ensures))
+    (widen (lit≤ tt) (lower-end-fine (z .args .s) b (c .before .lower-end .ensures)), widen (lit≤ tt) (upper-end-fine (z .args .s) b (c .upper-end .ensures)))
 
 refused-requires-2 : tie.Need-refused-requires-2
 refused-requires-2 c κs = search needs

@@ -1,0 +1,11 @@
+pub mod Folding
+pub mod Places
+pub mod Tests
+pub mod Holding
+pub mod Quotients
+pub mod Telling
+pub mod Greatest
+pub mod Walking
+pub mod Listed
+pub mod Entering
+pub mod Claiming
