@@ -3,3 +3,4 @@ pub mod Advice
 pub mod Doubles
 pub mod Run
 pub mod Version
+pub mod Week

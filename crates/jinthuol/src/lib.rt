@@ -1,5 +1,5 @@
-// The library for programs in other languages: the calls of crate encounter, the advised order, ends as doubles, numbers in decimal, the division by a whole number and
-// the listing of a script, under names of C.
+// The library for programs in other languages: the calls of crate encounter, the advised order, ends as doubles, the week, numbers in decimal, the division by a whole
+// number and the listing of a script, under names of C.
 ghost use mathlib.Core.Path.{_≡_};
 ghost use Rattle.exact.specs.Decimals.{decimal-of, Printed, Found, Near};
 ghost use Rattle.encounter.specs.Session.{empty as empty-session};
@@ -13,11 +13,17 @@ ghost use Rattle.jinthuol.specs.Answer.{class-number, numbered, called};
 ghost use Rattle.jinthuol.specs.Doubles.{doubles-numbers, doubles-told, plotted-numbers, plotted-told};
 ghost use Rattle.jinthuol.specs.Run.{RunOf};
 ghost use Rattle.jinthuol.specs.Version.{version};
+ghost use Rattle.jinthuol.specs.Week.{days-of, in-days, entered-as};
+ghost use Rattle.week.specs.Week.{empty-week, enter as week-entry, week-ends as ends-of-week};
+ghost use Rattle.week.specs.Told.{FromCalls};
 
 mod ends;
+mod weeks;
 
 use crate::ends::doubles_of;
 use crate::ends::plotted_of;
+use crate::weeks::arrays_of;
+use crate::weeks::days_in;
 use advice;
 use division::Divided;
 use division::divide;
@@ -27,18 +33,25 @@ use encounter::state;
 use encounter::state::Class;
 use encounter::state::Session;
 use exact::Conjunction;
+use exact::DAYS_A_WEEK;
 use exact::Decimal;
 use exact::Encounter;
 use exact::LARGEST_SCRIPT;
+use exact::PLACES_A_DAY;
 use exact::Scaled;
 use host::PlotRecord;
 use host::read_doubles;
 use host::read_plot_record;
 use listing::script::put_lines;
 use listing::script::put_too_long;
+use week::Bracket;
+use week::Ends;
+use week::empty_week;
+use week::enter;
+use week::week_ends;
 
 // The version of the functions below and their structs; bindings/c/jinthuol.h has the same number.
-pub const VERSION: u32 = 10;
+pub const VERSION: u32 = 11;
 
 // An answer, with its class as a number.
 #[repr(C)]
@@ -75,6 +88,25 @@ pub struct Plotted {
     pub refusal: u32,
     pub tag: u32,
     pub plot: PlotRecord,
+}
+
+// The places of a day.
+#[repr(C)]
+pub struct Day {
+    pub places: [Bracket; PLACES_A_DAY],
+}
+
+// The days of a week: a function for other languages takes and answers no array by value.
+#[repr(C)]
+pub struct Week {
+    pub days: [Day; DAYS_A_WEEK],
+}
+
+// The refusal's number, or 0; then the week, which is as it was where it is refused.
+#[repr(C)]
+pub struct Entered {
+    pub refusal: u32,
+    pub week: Week,
 }
 
 // The answer of a call, and the session after it.
@@ -251,6 +283,35 @@ pub extern "C" fn jinthuol_read_plot_record(session: Session) -> Plotted
     ensures { λ r. ⌜ (r ≡ plotted-numbers (host-plotted session)) × (plotted-told r ≡ host-plotted session) × Stores (call reads session .answer) (plotted-told r) ⌝ }
 {
     plotted_of(read_plot_record(session))
+}
+
+// A week with nothing in it.
+#[no_mangle]
+pub extern "C" fn jinthuol_empty_week() -> Week
+    ensures { λ r. ⌜ (r ≡ in-days empty-week) × FromCalls (days-of r) ⌝ }
+{
+    days_in(empty_week())
+}
+
+// The week with the two ends of a read of the session in the next empty place of the day.
+#[no_mangle]
+pub extern "C" fn jinthuol_enter(week: Week, day: u32, session: Session) -> Entered
+    requires { ⌜ (FromCalls (days-of week)) × Reached session ⌝ }
+    ensures { λ r. ⌜ (r ≡ entered-as (week-entry (days-of week) day session)) × FromCalls (days-of (r .week)) ⌝ }
+{
+    let mut refusal: u32 = 0;
+    let after = enter(arrays_of(week), day, session, &mut refusal);
+    let week = days_in(after);
+    Entered { refusal, week }
+}
+
+// The week's two ends.
+#[no_mangle]
+pub extern "C" fn jinthuol_week_ends(week: Week) -> Ends
+    requires { ⌜ FromCalls (days-of week) ⌝ }
+    ensures { λ r. ⌜ r ≡ ends-of-week (days-of week) ⌝ }
+{
+    week_ends(arrays_of(week))
 }
 
 // A number in decimal, as a lower end or, where up is true, as an upper one.
