@@ -1,5 +1,6 @@
 // A customer: it calls every public function of the library as a caller would, with any numbers and bytes, and meets each premise by the promise of the call
-// before. Only a function that lends a session has a premise here, `Reached`, and its callers start from the empty session.
+// before. Only a function that takes or lends a session has a premise here, `Reached`, and one that takes a week, `FromCalls`; their callers start from the empty session
+// and the empty week.
 ghost use mathlib.Core.Path.{_≡_};
 ghost use Rattle.encounter.specs.Session.{empty as empty-session};
 ghost use Rattle.encounter.specs.Calls.{begins, begins-conjunction, adds, reads, call, Reached};
@@ -8,6 +9,7 @@ ghost use Rattle.host.specs.Plot.{plotted};
 ghost use Rattle.jinthuol.specs.Advice.{advice-numbers};
 ghost use Rattle.jinthuol.specs.Answer.{numbered, called};
 ghost use Rattle.jinthuol.specs.Doubles.{plotted-numbers};
+ghost use Rattle.week.specs.Week.{empty-week, enter as entry, week-ends};
 use advice::Advice;
 use advice::advise;
 use advice::orders;
@@ -19,6 +21,7 @@ use encounter::mantissas::over;
 use encounter::state::Answer;
 use encounter::state::Called;
 use encounter::state::Session;
+use encounter::sums;
 use exact::Conjunction;
 use exact::Decimal;
 use exact::Encounter;
@@ -34,17 +37,24 @@ use jinthuol::jinthuol_begin;
 use jinthuol::jinthuol_begin_conjunction;
 use jinthuol::jinthuol_divide;
 use jinthuol::jinthuol_empty;
+use jinthuol::jinthuol_empty_week;
+use jinthuol::jinthuol_enter;
 use jinthuol::jinthuol_read;
 use jinthuol::jinthuol_read_doubles;
 use jinthuol::jinthuol_read_plot_record;
 use jinthuol::jinthuol_run;
 use jinthuol::jinthuol_to_decimal;
 use jinthuol::jinthuol_version;
+use jinthuol::jinthuol_week_ends;
 use listing::put_line;
 use listing::script::Piece;
 use listing::script::put_lines;
 use listing::script::put_too_long;
 use records::take_record;
+use week::Ends;
+use week::empty_week;
+use week::enter;
+use week::week_ends;
 
 // A session of which callers know only that calls left it.
 fn used(C: Conjunction, E: Encounter, count: u16, script: &[u8], at: usize) -> Session
@@ -143,6 +153,18 @@ pub fn stored_record(C: Conjunction, count: u16) -> Plotted
     read_plot_record(added.session)
 }
 
+// The ends of a week with two entries of that session, on any days.
+pub fn figure(C: Conjunction, count: u16, first: u32, second: u32) -> Ends
+    ensures { λ r. ⌜ r ≡ (let s = call (adds count) (call (begins-conjunction C) empty-session .session) .session in week-ends (entry (entry empty-week first s .week) second s .week)) ⌝ }
+{
+    let begun = begin_conjunction_lent(Session::empty(), C);
+    let added = add_lent(begun.session, count);
+    let mut refusal: u32 = 0;
+    let once = enter(empty_week(), first, added.session, &mut refusal);
+    let twice = enter(once, second, added.session, &mut refusal);
+    week_ends(twice)
+}
+
 // The same from the exported calls.
 fn begin_exported(s: Session, E: Encounter) -> jinthuol::Called
     requires { ⌜ Reached s ⌝ }
@@ -195,6 +217,16 @@ pub fn stored_record_exported(C: Conjunction, count: u16) -> jinthuol::Plotted
     jinthuol_read_plot_record(added.session)
 }
 
+pub fn figure_exported(C: Conjunction, count: u16, first: u32, second: u32) -> Ends
+    ensures { λ r. ⌜ r ≡ (let s = call (adds count) (call (begins-conjunction C) empty-session .session) .session in week-ends (entry (entry empty-week first s .week) second s .week)) ⌝ }
+{
+    let begun = begin_conjunction_exported(jinthuol_empty(), C);
+    let added = add_exported(begun.session, count);
+    let once = jinthuol_enter(jinthuol_empty_week(), first, added.session);
+    let twice = jinthuol_enter(once.week, second, added.session);
+    jinthuol_week_ends(twice.week)
+}
+
 // The functions that take no session.
 fn the_version() -> u32 {
     jinthuol_version()
@@ -222,6 +254,14 @@ fn in_decimal_exported(up: bool, x: Scaled) -> Decimal {
 
 fn any_mantissa(up: bool, m: u32, k: u32) -> Scaled {
     over(up, m, k)
+}
+
+fn any_sum(up: bool, x: Scaled, y: Scaled) -> Scaled {
+    sums::sum(up, x, y)
+}
+
+fn any_greater(x: Scaled, y: Scaled) -> Scaled {
+    sums::greater(x, y)
 }
 
 fn any_quotient(up: bool, x: Scaled, k: u32) -> Divided {

@@ -288,7 +288,7 @@ pub extern "C" fn jinthuol_read_plot_record(session: Session) -> Plotted
 // A week with nothing in it.
 #[no_mangle]
 pub extern "C" fn jinthuol_empty_week() -> Week
-    ensures { λ r. ⌜ (r ≡ in-days empty-week) × FromCalls (days-of r) ⌝ }
+    ensures { λ r. ⌜ (r ≡ in-days empty-week) × (days-of r ≡ empty-week) × FromCalls (days-of r) ⌝ }
 {
     days_in(empty_week())
 }
@@ -297,7 +297,7 @@ pub extern "C" fn jinthuol_empty_week() -> Week
 #[no_mangle]
 pub extern "C" fn jinthuol_enter(week: Week, day: u32, session: Session) -> Entered
     requires { ⌜ (FromCalls (days-of week)) × Reached session ⌝ }
-    ensures { λ r. ⌜ (r ≡ entered-as (week-entry (days-of week) day session)) × FromCalls (days-of (r .week)) ⌝ }
+    ensures { λ r. ⌜ (r ≡ entered-as (week-entry (days-of week) day session)) × (days-of (r .week) ≡ week-entry (days-of week) day session .week) × FromCalls (days-of (r .week)) ⌝ }
 {
     let mut refusal: u32 = 0;
     let after = enter(arrays_of(week), day, session, &mut refusal);

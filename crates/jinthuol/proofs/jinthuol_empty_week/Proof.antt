@@ -14,7 +14,7 @@ days-in-requires c κs = search needs
 returns : tie.Need-returns
 returns c =
     let e = c .before .empty-week .ensures in
-    (c .days-in .ensures .0 ∙ ap in-days (e .0), subst FromCalls (sym (c .days-in .ensures .1)) (e .1))
+    (c .days-in .ensures .0 ∙ ap in-days (e .0), c .days-in .ensures .1 ∙ e .0, subst FromCalls (sym (c .days-in .ensures .1)) (e .1))
 
 pub jinthuol-empty-week-spec : {M : Type 1} → statement M
 jinthuol-empty-week-spec = tie.close (tie.spec empty-week-requires days-in-requires returns)

@@ -21,6 +21,7 @@ returns c =
     let e = c .before .enter .ensures in
     let same = ap (λ (w : Week). enter w (z .args .day) (z .args .session)) (c .before .before .before .arrays-of .ensures) in (
       entered-is (e .0 ∙ ap (λ (r : Entry). r .week) same) (e .1 ∙ ap (λ (r : Entry). r .refusal) same) (c .days-in .ensures .0),
+      c .days-in .ensures .1 ∙ e .0 ∙ ap (λ (r : Entry). r .week) same,
       subst FromCalls (sym (c .days-in .ensures .1)) (e .2),
     )
 
