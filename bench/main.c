@@ -11,6 +11,7 @@
 #include "decimals.h"
 #include "division.h"
 #include "host.h"
+#include "week.h"
 #include <inttypes.h>
 #include <math.h>
 #include <stdio.h>
@@ -413,6 +414,115 @@ static void print_doubles(void)
     }
 }
 
+/* A session of the library and the same one of plain.c. */
+struct both {
+    jinthuol_session proved;
+    plain_session plain;
+};
+
+static struct both empty_both(void)
+{
+    return (struct both){jinthuol_empty(), plain_empty()};
+}
+
+static struct both both_at(const struct measured *e, uint32_t N)
+{
+    struct both s = empty_both();
+    jinthuol_begin(&s.proved, e->E);
+    plain_begin(&s.plain, e->E);
+    if (N > 1) {
+        jinthuol_add(&s.proved, (uint16_t)(N - 1));
+        plain_add(&s.plain, (uint16_t)(N - 1));
+    }
+    return s;
+}
+
+/* Enters a session into both weeks. Whether the refusals, every word of the weeks and both ends are the same, also where the week and the session are lent. */
+static int equal_weeks(jinthuol_week *proved, jinthuol_week *plain, uint32_t day, const struct both *s)
+{
+    jinthuol_week lent = *plain;
+    jinthuol_entered due = jinthuol_enter(*proved, day, s->proved), found = plain_enter(*plain, day, s->plain);
+    uint32_t refusal = lent_enter(&lent, day, &s->plain);
+    if (memcmp(&due, &found, sizeof due) || refusal != due.refusal || memcmp(&lent, &due.week, sizeof lent))
+        return 0;
+    *proved = due.week;
+    *plain = found.week;
+    jinthuol_ends a = jinthuol_week_ends(*proved), b = plain_week_ends(*plain), c = lent_week_ends(&lent);
+    return memcmp(&a, &b, sizeof a) == 0 && memcmp(&a, &c, sizeof a) == 0;
+}
+
+/* Whether both versions have the same weeks: 1,000 of them, each of entries on days from 0 to 7 until twenty were on a day that is full after them, of an empty session,
+   of the cases and of drawn encounters at their orders, and of these at N = 1. */
+static int compare_weeks(const struct measured *list)
+{
+    enum { WEEKS = 1000, DRAWN = 200 };
+    static struct both sessions[1 + 2 * (CASE_COUNT + DRAWN)];
+    int count = 0;
+    sessions[count++] = empty_both();
+    for (int i = 0; i < CASE_COUNT + DRAWN; i++) {
+        const struct measured *e = i < CASE_COUNT ? &CASES[i] : &list[i - CASE_COUNT];
+        sessions[count++] = both_at(e, e->N);
+        sessions[count++] = both_at(e, 1);
+    }
+    for (int i = 0; i < WEEKS; i++) {
+        jinthuol_week proved = jinthuol_empty_week(), plain = {0};
+        for (int refused = 0; refused < 20;) {
+            uint32_t day = drawn(8);
+            const struct both *s = &sessions[drawn((uint32_t)count)];
+            if (!equal_weeks(&proved, &plain, day, s)) {
+                printf("weeks differ: %d, day %" PRIu32 "\n", i, day);
+                return 0;
+            }
+            refused += day < 7 && proved.days[day][7].held;
+        }
+    }
+    return 1;
+}
+
+/* An entry of the first case, and both ends of a week: by the library, in C by value as the library has them, and in C with week and session lent; beside the read alone. */
+static void print_weeks(void)
+{
+    enum { PROVED_WEEK, BY_VALUE, LENT, WAYS };
+    static double found[WAYS][ROUNDS];
+    struct both s = both_at(&CASES[0], CASES[0].N);
+    jinthuol_week full = jinthuol_empty_week(), last, empty = full;
+    for (uint32_t i = 0; i < 56; i++) {
+        last = full;
+        full = jinthuol_enter(full, i / 8, both_at(&CASES[i % CASE_COUNT], CASES[i % CASE_COUNT].N).proved).week;
+    }
+    const struct {
+        const char *name;
+        const jinthuol_week *week;
+        uint32_t day;
+    } entries[] = {{"first entry", &empty, 0}, {"56th entry", &last, 6}, {"refused 24", &full, 6}, {"refused 13", &full, 7}};
+    printf("\nA week, proved, in C by value, and in C with week and session lent; a read alone takes %.1f\n", CONTENDERS[PROVED]->time_read(&CASES[0], LEAST));
+    printf("  %-13s %9s %9s %9s  /value  /lent\n", "", "proved", "by value", "lent");
+    for (size_t i = 0; i < sizeof entries / sizeof entries[0]; i++) {
+        jinthuol_week week = *entries[i].week, changed = week;
+        uint32_t day = entries[i].day, place = i == 0 ? 0 : 7;
+        for (int round = 0; round < ROUNDS; round++) {
+            found[PROVED_WEEK][round] = NANOSECONDS(1024, LEAST, sink = jinthuol_enter(week, day, s.proved).refusal);
+            found[BY_VALUE][round] = NANOSECONDS(1024, LEAST, sink = plain_enter(week, day, s.plain).refusal);
+            /* the place is emptied again */
+            found[LENT][round] = NANOSECONDS(1024, LEAST, (sink = lent_enter(&changed, day, &s.plain), i < 2 ? (void)(changed.days[day][place].held = 0) : (void)0));
+        }
+        printf("  %-13s %9.1f %9.1f %9.1f  %6.2f  %5.2f\n", entries[i].name, median(found[PROVED_WEEK]), median(found[BY_VALUE]), median(found[LENT]),
+               ratio(found[PROVED_WEEK], found[BY_VALUE]), ratio(found[PROVED_WEEK], found[LENT]));
+    }
+    const jinthuol_week *const weeks[] = {&empty, &full};
+    static const char *const NAMES[] = {"ends, 0 held", "ends, 56 held"};
+    for (int i = 0; i < 2; i++) {
+        jinthuol_week week = *weeks[i];
+        for (int round = 0; round < ROUNDS; round++) {
+            found[PROVED_WEEK][round] = NANOSECONDS(1024, LEAST, sink = jinthuol_week_ends(week).upper.m);
+            found[BY_VALUE][round] = NANOSECONDS(1024, LEAST, sink = plain_week_ends(week).upper.m);
+            found[LENT][round] = NANOSECONDS(1024, LEAST, sink = lent_week_ends(&week).upper.m);
+        }
+        printf("  %-13s %9.1f %9.1f %9.1f  %6.2f  %5.2f\n", NAMES[i], median(found[PROVED_WEEK]), median(found[BY_VALUE]), median(found[LENT]),
+               ratio(found[PROVED_WEEK], found[BY_VALUE]), ratio(found[PROVED_WEEK], found[LENT]));
+    }
+}
+
 /* Nanoseconds of a begin of kind 4 by the library. */
 static double time_conjunction(jinthuol_encounter E)
 {
@@ -464,12 +574,12 @@ static int table(void)
             return 1;
     fill_powers();
     fill_orders();
-    if (!compare_decimals() || !compare_advice(list) || !compare_divisions() || !compare_doubles(list))
+    if (!compare_decimals() || !compare_advice(list) || !compare_divisions() || !compare_doubles(list) || !compare_weeks(list))
         return 1;
     print_processor();
     printf("Nanoseconds and ratios, medians of %d rounds. A term is both sides and the tail term.\n", ROUNDS);
     printf("/same, /plain, /doubles: proved over it. mpfr/: MPFR over proved.\n");
-    printf("The ends, N and class of all contenders are equal, and so are the decimals, the advice, the divisions and the ends as doubles of both versions.\n");
+    printf("The ends, N and class of all contenders are equal, and so are the decimals, the advice, the divisions, the ends as doubles and the weeks of both versions.\n");
     measure(list);
     for (int i = 0; i < CASE_COUNT; i++) {
         jinthuol_encounter E = CASES[i].E;
@@ -484,6 +594,7 @@ static int table(void)
     print_advice();
     print_divisions();
     print_doubles();
+    print_weeks();
     return 0;
 }
 

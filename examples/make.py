@@ -50,7 +50,14 @@ def reads_at(*orders):
 # R, sx, sy, xm, ym. Document 000, Table 3, has these in metres; HALF and FULL are of document 01.
 TEST_1 = 500, 5000, 100, 1000, 0
 CHAN_1 = 500, 5000, 2500, 1000, 0
+CHAN_3 = 500, 7500, 2500, 1000, 0
+CHAN_4 = 500, 7500, 2500, 0, 1000
 CHAN_5 = 1000, 300000, 100000, 100000, 0
+CHAN_6 = 1000, 300000, 100000, 0, 100000
+CHAN_7 = 1000, 300000, 100000, 1000000, 0
+CHAN_9 = 1000, 1000000, 100000, 1000000, 0
+CHAN_11 = 5000, 300000, 100000, 500000, 0
+CHAN_12 = 5000, 300000, 100000, 0, 500000
 CSM_2 = 130, 575684, 1598, 11505, -8161
 CSM_2_MIRRORED = 130, 575684, 1598, 11505, 8161
 ALFANO_3 = 1500, 11425, 141, 15, -388
@@ -175,6 +182,22 @@ SCRIPTS = {
     + reads_at(300, 361, 424)
     + begin_conjunction(ALWAYS_UNBOUNDED, 41330, 671)
     + reads_at(101),
+    "week": begin_conjunction(CHAN_9, 28230, 95)
+    + reads_at(13)
+    + begin_conjunction(CHAN_11, 34454, 411)
+    + reads_at(13)
+    + begin_conjunction(CHAN_12, 16182, 1302)
+    + reads_at(13)
+    + begin_conjunction(TEST_1, 39452, 3522)
+    + reads_at(20, 66)
+    + begin_conjunction(CHAN_7, 20580, 4400)
+    + reads_at(13)
+    + begin_conjunction(CHAN_4, 22675, 7330)
+    + reads_at(13)
+    + begin_conjunction(CHAN_6, 31793, 8010)
+    + reads_at(13)
+    + begin_conjunction(CHAN_3, 25400, 10085)
+    + reads_at(13),
     "stored-script": begin_conjunction(TEST_1, 27386, 642)
     + EMPTY_ADD
     + read()

@@ -18,28 +18,18 @@ Exit status: 0 every line is a record; 1 one is not; 2 wrong use, or a file that
 
 import argparse
 import pathlib
-import struct
 import sys
 
 sys.dont_write_bytecode = True
 import library
-
-# The body of each kind of record: begin, add, read, begin with object and time.
-BODIES = {kind: struct.Struct(body) for kind, body in {1: "<IIIii", 2: "<H", 3: "<", 4: "<IIIiiII"}.items()}
-# In bytes.
-LONGEST_SCRIPT = 65_536
+import scripts
 
 
 def script():
     """The bytes of the file."""
     parser = argparse.ArgumentParser(description="What a plotting tool stores of the reads of a script.")
     parser.add_argument("script", type=pathlib.Path, help="a script of records, as ./screen takes it")
-    path = parser.parse_args().script
-    try:
-        return path.read_bytes()
-    except OSError as error:
-        print(f"plot-records.py: {path}: {error.strerror}", file=sys.stderr)
-        sys.exit(2)
+    return scripts.bytes_of("plot-records.py", parser.parse_args().script)
 
 
 def plotted(session):
@@ -52,41 +42,22 @@ def plotted(session):
     return f"unbounded {session.read().object}: at least {session.read_doubles().lower!r}"
 
 
-def called(jinthuol, session, kind, numbers):
-    """What is printed of a record; nothing of a begin or an add that is accepted."""
-    if kind == 3:
-        return plotted(session)
-    if kind == 2:
-        answer = session.add(*numbers)
-    elif kind == 1:
-        answer = session.begin(jinthuol.Encounter(*numbers))
-    else:
-        answer = session.begin_conjunction(jinthuol.Conjunction(jinthuol.Encounter(*numbers[:5]), *numbers[5:]))
-    return str(answer) if answer.refusal else ""
-
-
 def lines(jinthuol, records):
-    """The offset and the words of each line. A script ends after refusal 1 or 2."""
-    if len(records) > LONGEST_SCRIPT:
-        yield 0, jinthuol.refused(8)
-        return
-    session, offset = jinthuol.Session.empty(), 0
-    while offset < len(records):
-        body = BODIES.get(records[offset])
-        if not body:
-            yield offset, jinthuol.refused(1)
-            return
-        if len(records) < offset + 1 + body.size:
-            yield offset, jinthuol.refused(2)
-            return
-        words = called(jinthuol, session, records[offset], body.unpack_from(records, offset + 1))
-        if words:
-            yield offset, words
-        offset += 1 + body.size
+    """The offset and the words of each line. A begin or an add that is accepted has none."""
+    session = jinthuol.Session.empty()
+    for record in records:
+        if record.refusal:
+            yield record.offset, jinthuol.refused(record.refusal)
+        elif record.kind == scripts.READ:
+            yield record.offset, plotted(session)
+        else:
+            answer = scripts.called(jinthuol, session, record)
+            if answer.refusal:
+                yield record.offset, str(answer)
 
 
 def main():
-    records = script()
+    records = scripts.records(script())
     found = list(lines(library.load("plot-records.py"), records))
     for offset, words in found:
         print(offset, words)

@@ -4,17 +4,17 @@
     python3 tests/bindings.py [--library FOLDER] [--seed N]
 
 The folder holds the library; `rt staticlib jinthuol` writes it to target/staticlib. Encounters go through
-bindings/c/example.c, compiled as C and as C++; guard.c tries that no call writes past a session. The divisions of
-division.py go through quotients.c, compiled so too, and through bindings/python. The tests of bindings/rust are run.
-Scripts go through bindings/python and bindings/rust, and their records as calls through bindings/python, where every
-number of the session, its advice and its ends as doubles are compared too. The same calls go through doubles.c, compiled
-as C and as C++, for the ends as doubles. What is built goes to target/bindings. Exits with 1 at the first difference.
+bindings/c/example.c, compiled as C and as C++, which enters each that is read into a week (week.py has more weeks);
+guard.c tries that no call writes past a session. The divisions of division.py go through quotients.c, compiled so too,
+and through bindings/python. The tests of bindings/rust are run. Scripts go through bindings/python and bindings/rust,
+and their records as calls through bindings/python, where every number of the session, its advice and its ends as
+doubles are compared too. The same calls go through doubles.c, compiled as C and as C++, for the ends as doubles. What is
+built goes to target/bindings. Exits with 1 at the first difference.
 """
 
 import itertools
 import math
 import os
-import pathlib
 import random
 import re
 import struct
@@ -33,32 +33,16 @@ import options
 import orders
 import records
 from checks import shortened
+from compiled import BINDINGS, BUILT, COMPILERS, LONGEST_RUN, built, differs, library_of, library_option, output
 from doubles import Doubles, Plotted
 from encounters import AT_THRESHOLD, DOCUMENTS, EDGES, SMALL, THIN
 from options import ROOT
 from records import MOST_COUNT, READ
 from reference import LARGEST_N, REFUSALS, Answer, Session
-from scaled import LEAST, LIMIT
+from scaled import LEAST, LIMIT, Scaled
+from week_reference import Week
 
-BINDINGS = ROOT / "bindings"
-BUILT = ROOT / "target/bindings"
 EXAMPLES = sorted((ROOT / "examples").glob("*.script"))
-# Seconds for one command.
-LONGEST_RUN = 120
-WARNINGS = ["-Wall", "-Wextra", "-Werror", "-pedantic"]
-
-
-def differs(what, found, due):
-    sys.exit(f"bindings: {what}\n    found: {found}\nreference: {due}")
-
-
-def output(command, **more):
-    """What the command writes, where it does not fail."""
-    ended = subprocess.run(list(map(str, command)), capture_output=True, timeout=LONGEST_RUN, **more)
-    if ended.returncode:
-        said = (ended.stdout[-4000:] + ended.stderr[-4000:]).decode(errors="replace")
-        sys.exit(f"bindings: exit status {ended.returncode} of {' '.join(map(str, command))}\n{said}")
-    return ended.stdout
 
 
 # Encounters, through the program in C.
@@ -136,8 +120,13 @@ def lines_of(call, answer):
     """What the program prints of a call."""
     if call in ("read_doubles", "read_plot_record"):
         return of_the_host(call, answer)
+    if call == "week_ends":
+        decimals = records.decimal_text(False, answer.lower), records.decimal_text(True, answer.upper)
+        return [" ".join(map(str, (f"week of {answer.held}:", *answer.lower, *answer.upper, *decimals)))]
     if answer.refusal:
         return [f"refused {answer.refusal}: {REFUSALS[answer.refusal].replace('−', '-')}"]
+    if call == "enter":
+        return [f"entered on day {answer.day}"]
     if call == "advise":
         return [f"advised {answer.order}" if answer.order is not None else "no order is advised: M is above 256"]
     words = [WORDS[call], answer.N]
@@ -151,8 +140,24 @@ def lines_of(call, answer):
     return [" ".join(map(str, words)), "every term so far is exact" if answer.exact == answer.N else rounded]
 
 
-def called(R, sx, sy, xm, ym, N, *of_object):
-    """The calls by reference.py."""
+class Entry(NamedTuple):
+    refusal: int
+    day: int
+
+
+class WeekEnds(NamedTuple):
+    """How many brackets are held, and both ends."""
+
+    held: int
+    lower: Scaled
+    upper: Scaled
+
+
+MINUTES_A_DAY = 1440
+
+
+def called(week, R, sx, sy, xm, ym, N, *of_object):
+    """The calls by reference.py. A session that is read is entered into the week, by its time."""
     session = Session()
     if of_object:
         yield "begin_conjunction", session.begin_conjunction(R, sx, sy, xm, ym, *of_object)
@@ -166,9 +171,13 @@ def called(R, sx, sy, xm, ym, N, *of_object):
         N = advice.order
     if N > 1:
         yield "add", session.add(N - 1)
-    yield "read", session.read()
+    read = session.read()
+    yield "read", read
     yield "read_doubles", session.read_doubles()
     yield "read_plot_record", session.read_plot_record()
+    if not read.refusal:
+        day = read.time // MINUTES_A_DAY
+        yield "enter", Entry(week.enter(day, session), day)
 
 
 def fails(what, program, **given):
@@ -197,30 +206,21 @@ WRONG_LINES = (
 )
 
 
-COMPILERS = {"gcc": ["-std=c99", "-x", "c"], "g++": ["-std=c++11", "-x", "c++"]}
-
-
-def built(compiler, library, source):
-    """The program that the compiler makes of a source in C."""
-    program = BUILT / f"{source.stem}-{compiler}"
-    files = [*COMPILERS[compiler], f"-I{BINDINGS}/c", source, "-x", "none", library / "libjinthuol.a", "-lm"]
-    output([compiler, "-O2", *WARNINGS, *files, "-o", program])
-    return program
-
-
 def of_c(rng, library):
     """Gives how many encounters were compared."""
     programs = {compiler: built(compiler, library, BINDINGS / "c/example.c") for compiler in COMPILERS}
     for compiler in COMPILERS:
         output([built(compiler, library, ROOT / "tests/guard.c")])
-    tried = list(cases(rng))
-    made = [(case, *call) for case in tried for call in called(*case)]
+    tried, week = list(cases(rng)), Week()
+    made = [(case, *call) for case in tried for call in called(week, *case)]
     answered = {(call, answer.refusal) for _, call, answer in made}
     reads = [answer for _, call, answer in made if call == "read" and not answer.refusal]
     classes, counts = {answer.class_name for answer in reads}, {answer.exact for answer in reads}
-    # The program makes no add of 0.
-    if answered != edges.ANSWERS - {("add", 12)} or classes != set(fields.CLASSES) or not counts >= set(range(6)):
+    # The program makes no add of 0, and no entry of a session that is not read.
+    answers = edges.ANSWERS - {("add", 12)} | edges.ENTRIES - {("enter", 21), ("enter", 23)}
+    if answered != answers or classes != set(fields.CLASSES) or not counts >= set(range(6)):
         sys.exit(f"bindings: the encounters have only {answered}, the classes {classes} and the counts {counts}")
+    made.append(("all", "week_ends", WeekEnds(len(week.held()), *week.ends())))
     due = [(line, call, case) for case, call, answer in made for line in lines_of(call, answer)]
     lines = "".join(" ".join(map(str, case)) + "\n" for case in tried).encode()
     for compiler, program in programs.items():
@@ -439,13 +439,15 @@ def of_scripts(rng, rust):
 def of_wrong_numbers(python):
     """Python takes no number that does not fit."""
     session, encounter = python.Session.empty(), python.Encounter(1, 1, 1, 0, 0)
-    number = python.Scaled(1 << 31, 0)
+    number, week = python.Scaled(1 << 31, 0), python.Week.empty()
     for call, wrong in (
         (python.Scaled, 1 << 32),
         (python.Scaled, -1),
         (lambda e: python.Scaled(0, e), 1 << 31),
         (number.divided_down, 1 << 32),
         (number.divided_up, -1),
+        (lambda day: week.enter(day, session), 1 << 32),
+        (lambda day: week.enter(day, session), -1),
         (session.begin, encounter._replace(R=1 << 32)),
         (session.begin_conjunction, python.Conjunction(encounter._replace(R=1 << 32), 1, 2)),
         (session.begin_conjunction, python.Conjunction(encounter, 1 << 32, 2)),
@@ -469,7 +471,7 @@ def of_rust():
 
 
 FUNCTIONS = ("empty", "begin", "begin_conjunction", "add", "read", "advise", "read_doubles", "read_plot_record")
-FUNCTIONS += ("to_decimal", "divide", "run")
+FUNCTIONS += ("to_decimal", "divide", "empty_week", "enter", "week_ends", "run")
 
 
 def of_another_version():
@@ -482,6 +484,7 @@ def of_another_version():
     output(["ar", "rc", folder / "libjinthuol.a", folder / "own.o"])
     environment = {**os.environ, "JINTHUOL_LIB_DIR": str(folder), "CARGO_TARGET_DIR": str(folder / "rust")}
     tests = [["test", "--test", "calls", name] for name in ("brackets", "decimals", "divisions")]
+    tests.append(["test", "--test", "weeks", "empty"])
     for command in ["run", "--example", "screen", EXAMPLES[0]], *tests:
         command = ["cargo", command[0], "--offline", "--locked", *map(str, command[1:])]
         ended = subprocess.run(command, cwd=BINDINGS / "rust", env=environment, capture_output=True, timeout=LONGEST_RUN)
@@ -492,12 +495,9 @@ def of_another_version():
 
 def main():
     parser = options.parser("Compares the calls of libjinthuol.a with reference.py and records.py.")
-    parser.add_argument("--library", type=pathlib.Path, default=ROOT / "target/staticlib", help="the library's folder")
+    library_option(parser)
     arguments = parser.parse_args()
-    library = arguments.library.resolve()
-    if not (library / "libjinthuol.a").is_file():
-        sys.exit(f"bindings: no libjinthuol.a in {arguments.library}; `rt staticlib jinthuol` writes it")
-    BUILT.mkdir(parents=True, exist_ok=True)
+    library = library_of(arguments)
     # For bindings/python and bindings/rust.
     os.environ["JINTHUOL_LIB_DIR"] = str(library)
     os.environ.update(CARGO_TARGET_DIR=str(BUILT / "rust"), RUSTFLAGS="-D warnings")

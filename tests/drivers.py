@@ -469,3 +469,106 @@ fn main() {
     }
 }
 """
+
+# The week. Reads records of 30 bytes: the kind, the number of one of eight sessions, then seven words, little-endian.
+# Kinds 1, 2 and 4 are begin with its five inputs, add with its count in the first word, and begin_conjunction with its
+# seven inputs; kind 0 stands for an empty session in place of the one before, kind 5 for an empty week and eight empty
+# sessions. Kind 6 is an entry, with the day in the first word. After an entry it writes the refusal's number, every
+# number of the week in the order of days and places, and m and e of both ends.
+WEEKS = """\
+mod words;
+use crate::words::encounter_at;
+use crate::words::put;
+use crate::words::put_scaled;
+use crate::words::word;
+use encounter::calls;
+use encounter::state::Session;
+use exact::Conjunction;
+use week::Bracket;
+use week::Ends;
+use week::empty_week;
+use week::enter;
+use week::week_ends;
+
+fn conjunction_at(b: &[u8; 30]) -> Conjunction {
+    Conjunction { encounter: encounter_at(b, 2), object: word(b, 22), time: word(b, 26) }
+}
+
+fn called(s: Session, b: &[u8; 30]) -> Session {
+    if b[0] == 1 {
+        let c = calls::begin(s, encounter_at(b, 2));
+        return c.session;
+    }
+    if b[0] == 2 {
+        let c = calls::add(s, word(b, 2) as u16);
+        return c.session;
+    }
+    if b[0] == 4 {
+        let c = calls::begin_conjunction(s, conjunction_at(b));
+        return c.session;
+    }
+    Session::empty()
+}
+
+fn put_bracket(line: &mut [u8], at: usize, b: Bracket) -> usize {
+    let mut next = put(line, at, b.held);
+    next = put_scaled(line, next, b.lower);
+    put_scaled(line, next, b.upper)
+}
+
+fn put_day(line: &mut [u8], at: usize, day: [Bracket; 8]) -> usize {
+    let mut next = at;
+    let mut p: usize = 0;
+    while p < 8 {
+        let b = day[p];
+        next = put_bracket(line, next, b);
+        p += 1;
+    }
+    next
+}
+
+fn put_week(line: &mut [u8], at: usize, w: [[Bracket; 8]; 7]) -> usize {
+    let mut next = at;
+    let mut d: usize = 0;
+    while d < 7 {
+        let day = w[d];
+        next = put_day(line, next, day);
+        d += 1;
+    }
+    next
+}
+
+fn put_ends(line: &mut [u8], at: usize, ends: Ends) -> usize {
+    let next = put_scaled(line, at, ends.lower);
+    put_scaled(line, next, ends.upper)
+}
+
+fn main() {
+    let mut record = [0u8; 30];
+    let mut line = [10u8; 2281];
+    let empty = Session::empty();
+    let mut sessions = [empty; 8];
+    let mut w = empty_week();
+    while io::read_full(0, &mut record) == 30 {
+        let number = record[1] as usize;
+        if record[0] == 6 {
+            let mut refusal: u32 = 0;
+            let s = sessions[number];
+            let entered = enter(w, word(&record, 2), s, &mut refusal);
+            w = entered;
+            let mut next = put(&mut line, 0, refusal);
+            next = put_week(&mut line, next, w);
+            put_ends(&mut line, next, week_ends(w));
+            io::write_all(1, &line);
+        } else if record[0] == 5 {
+            let none = [empty; 8];
+            sessions = none;
+            let new = empty_week();
+            w = new;
+        } else {
+            let s = sessions[number];
+            sessions[number] = called(s, &record);
+        }
+    }
+}
+"""

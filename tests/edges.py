@@ -43,6 +43,8 @@ ANSWERS = {
     *(("read_doubles", answer) for answer in (0, 21, 23)),
     *(("read_plot_record", answer) for answer in (0, 21, 23)),
 }
+# The same of request #111: "A bracket enters the week only through a read of a session". No record asks for it.
+ENTRIES = {("enter", answer) for answer in (0, 13, 21, 23, 24)}
 
 PAST = LARGEST + 1
 MOST_32 = (1 << 32) - 1

@@ -102,6 +102,10 @@ AT_THRESHOLD = [
     (Encounter(31989, 4943591, 778307, 0, 588290), "upper", "below", "clear"),
     (Encounter(29759, 4811676, 915563, 0, 94915), "upper", "above", "open"),
 ]
+# Request #111: the largest upper end that was found, about 6.9 × 10^114, at N = 1,024, and the smallest ends, about
+# 9 × 10^-42, at N = 1. The first has an M next to 513; with sx = sy and u² − u next to 513 its c(0)/e^t is large.
+HIGHEST = Encounter(9935512, 1460000, 1460000, 9496745, 0)
+LOWEST = Encounter(1, LARGEST, 887356, 9999905, 9999995)
 # The ends are on both sides of 1/10,000 at every order.
 ASTRIDE = Encounter(1302, 92063, 92063, 0, 0)
 # Clear from N = 3 to 10; then rounding has lifted the upper end to 1/10,000. The advised order is 13.

@@ -5,8 +5,8 @@
 
 `rt staticlib jinthuol` has written the library to target/staticlib. Importing is tried where the library is missing, of
 another version or no library, without gcc, twice, from other folders and where the shared object cannot be written.
-Floats and fractions are compared with exact ones, decimals with decimals.py, ends as doubles with edges.py. Exits with 1
-where anything differs.
+Floats and fractions are compared with exact ones, decimals with decimals.py, ends as doubles with edges.py, weeks with
+week_reference.py. Exits with 1 where anything differs.
 """
 
 import ctypes
@@ -17,6 +17,7 @@ import os
 import pathlib
 import random
 import shutil
+import struct
 import subprocess
 import sys
 import tempfile
@@ -26,12 +27,14 @@ sys.dont_write_bytecode = True
 import decimals
 import ends
 import options
+import orders
 import scaled
+import week_reference
 from checks import Checks
 from edges import ADVISED, AS_DOUBLES, EXACT_TERMS
-from encounters import AT_THRESHOLD, FULL, LATEST, TEST_1
+from encounters import ALFANO_3, AT_THRESHOLD, FULL, HIGHEST, LATEST, LOWEST, TEST_1
 from options import ROOT
-from reference import REFUSALS
+from reference import LARGEST_N, REFUSALS, Session
 
 MODULE = ROOT / "bindings/python/jinthuol.py"
 LIBRARY = ROOT / "target/staticlib/libjinthuol.a"
@@ -352,6 +355,65 @@ def with_words(session, ends, said, plotted, said_of_it):
     checks.check(ok, "doubles", f"{found!r}, {record!r}: {found}, {record}")
 
 
+def of_week(module):
+    """Request #111: a week in fields and in words, what it does not take, and that no answer is another later."""
+    sizes = [ctypes.sizeof(one) for one in (module.Bracket, module.KeptWeek, module.EnteredOutput, module.Ends)]
+    offsets = module.Bracket.upper.offset, module.EnteredOutput.week.offset, module.Ends.upper.offset
+    checks.check((sizes, offsets) == ([20, 1120, 1124, 16], (12, 4, 8)), "weeks", f"the structs: {sizes} {offsets}")
+    week, session, due = module.Week.empty(), module.Session.empty(), week_reference.Week()
+    checks.check(str(week.ends()) == "0 to 0, 0.000e-00 to 0.000e-00", "weeks", f"an empty week: {week.ends()}")
+    checks.check(week.days == [[None] * 8 for _ in range(7)] and not any(bytes(week.kept)), "weeks", "an empty week")
+    kept, before = week.kept, module.Week.empty()
+    for inputs, N, day, words in (
+        (None, 0, 7, "refused 13: enter: day number above 6"),
+        (None, 0, 6, "refused 21: add or read with no encounter begun"),
+        (TEST_1, 35, 6, "refused 23: read: 2M above N + 2"),
+        (TEST_1, 35, (1 << 32) - 1, "refused 13: enter: day number above 6"),
+        (TEST_1, 66, 6, "entered"),
+        (LOWEST, 1, 0, "entered"),
+        (ALFANO_3, 597, 6, "entered"),
+        (HIGHEST, LARGEST_N, 3, "entered"),
+        *((TEST_1, 66, 6, "entered") for _ in range(6)),
+        (TEST_1, 66, 6, "refused 24: enter: a ninth bracket for a day"),
+        (TEST_1, 35, 6, "refused 23: read: 2M above N + 2"),
+    ):
+        if inputs:
+            begin_and_add(module, session, inputs, N)
+        held = [place for of in week.days for place in of if place]
+        of_held = list(map(str, held))
+        found = week.enter(day, session)
+        number = due.enter(day, orders.at_order(inputs, N) if inputs else Session())
+        ok = (str(found), found, repr(found)) == (words, module.Entered(number), f"Entered(refusal={number})")
+        checks.check(ok, "weeks", f"{inputs} at {N} on day {day}: {found!r}, {found}, due: {words}")
+        places = [[place and tuple(tuple(end.values()) for end in place.values()) for place in of] for of in week.days]
+        checks.check(places == due.days, "weeks", f"{inputs} at {N} on day {day}: {places}")
+        lower, upper = due.ends()
+        ends_found, exact = week.ends(), (scaled.value(lower), scaled.value(upper))
+        ok = (ends_found.lower.fraction, ends_found.upper.fraction) == exact == tuple(map(Fraction, ends_found.floats))
+        decimal_due = [decimals.text(decimals.decimal(up, end)) for up, end in ((False, lower), (True, upper))]
+        ok = ok and list(map(str, ends_found.decimals)) == decimal_due
+        printed = [f"{end.m} × 2^{end.e}" if end.m else "0" for end in (lower, upper)]
+        ok = ok and str(ends_found) == "{} to {}, {} to {}".format(*printed, *decimal_due)
+        checks.check(ok, "weeks", f"the ends after {inputs} at {N} on day {day}: {ends_found!r}, due: {lower} {upper}")
+        ok = list(map(str, held)) == of_held and not any(bytes(kept))
+        checks.check(ok, "weeks", f"what was answered before {inputs} at {N} on day {day}")
+    checks.check(week.kept != before.kept == module.Week.empty().kept, "weeks", "equal weeks")
+    due_words = "Ends(lower=Scaled(m=2627622691, e=-35), upper=Scaled(m=2627623085, e=-35))"
+    checks.check(repr(week.days[6][0]) == due_words, "weeks", f"repr: {week.days[6][0]!r}")
+    kept = bytes(week.kept)
+    for wrong in None, 7, TEST_1, session.kept, week:
+        try:
+            checks.check(False, "weeks", f"an entry of {wrong!r}: {week.enter(0, wrong)}")
+        except TypeError:
+            pass
+    for wrong in -1, 1 << 32, 1.0, "1", None:
+        try:
+            checks.check(False, "weeks", f"an entry on day {wrong!r}: {week.enter(wrong, session)}")
+        except struct.error:
+            pass
+    checks.check(bytes(week.kept) == kept, "weeks", "the week after calls that raise")
+
+
 def main():
     arguments = options.parser("Tries bindings/python/jinthuol.py.").parse_args()
     if not LIBRARY.is_file():
@@ -367,6 +429,7 @@ def main():
     of_decimals(module, random.Random(arguments.seed))
     of_answers(module)
     of_doubles(module)
+    of_week(module)
     checks.end()
 
 

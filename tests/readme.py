@@ -1,6 +1,6 @@
 #!/usr/bin/env python3
-"""Runs the commands of README.md and of five examples, advised-order.md, equal-weights.md, plot-records.md,
-stored-script.md and without-empty-adds.md, as they stand there, and compares what they print.
+"""Runs the commands of README.md and of six examples, advised-order.md, equal-weights.md, plot-records.md,
+stored-script.md, week.md and without-empty-adds.md, as they stand there, and compares what they print.
 
     python3 tests/readme.py
 
@@ -25,6 +25,7 @@ import options
 import orders
 import records
 import scaled
+import week_reference
 from brackets import as_float
 from checks import Checks
 from encounters import ASTRIDE, DOCUMENTS, FULL, TEST_1
@@ -33,6 +34,7 @@ from markdown import README, blocks, section
 from options import ROOT
 from reference import LONGEST_SCRIPT, REFUSALS, Session, refusal_of
 from scaled import Scaled
+from week_reference import DAYS, PLACES, Week
 
 # Seconds for one command.
 LONGEST_RUN = 120
@@ -63,7 +65,10 @@ def due_as_advised():
     apart = f"{as_float(read.upper) - as_float(read.lower):.17g}"
     as_doubles = "as doubles: from {} to {}".format(*doubles)
     record = "plot record: object 0, lower {}, upper {}, difference {}".format(*doubles, apart)
-    return [begun, f"advised {read.N}", added, f"{line} {' '.join(doubles)}", rounding, as_doubles, record]
+    # A week of one bracket has its ends.
+    ends = *read.lower, *read.upper, records.decimal_text(False, read.lower), records.decimal_text(True, read.upper)
+    week = ["entered on day 0", "week of 1: {} {} {} {} {} {}".format(*ends)]
+    return [begun, f"advised {read.N}", added, f"{line} {' '.join(doubles)}", rounding, as_doubles, record, *week]
 
 
 def of_c(lines):
@@ -86,13 +91,17 @@ def of_c(lines):
         due.append("a third: about {:.9g} to {:.9g}".format(*(as_float(third.quotient) for third in thirds)))
         due.append(f"plot from {as_float(read.lower):.9g} to {as_float(read.upper):.9g}")
         due.append(f"record of object 0, difference {as_float(read.upper) - as_float(read.lower):.9g}")
+        week = week_reference.Week()
+        for day, session in (2, orders.at_order(encounter, read.N)), (0, orders.at_order(DOCUMENTS["Chan 1"], 13)):
+            checks.check(week.enter(day, session) == 0, "commands", f"an entry on day {day}")
+        due.append("a week: about {:.9g} to {:.9g}".format(*map(as_float, week.ends())))
         main = "\n".join(code).replace(braced(TEST_1), braced(encounter))
         checks.check(braced(encounter) in main, "commands", f"no encounter {encounter} in the lines of C")
         source.write_text("\n".join(["#include <math.h>", "#include <stdio.h>", header, "int main(void) {", main, "}"]))
         prints(f"{compiler} -o {program}", [])
         prints(str(program), due)
         told = [line for line in due[2:] if re.search(f"(prints|and) `{re.escape(line)}`", section("From C and C++"))]
-        checks.check(len(told) == (5 if encounter == TEST_1 else 0), "commands", f"what README says is printed: {told}")
+        checks.check(len(told) == (6 if encounter == TEST_1 else 0), "commands", f"what README says is printed: {told}")
 
 
 def of_advised_order():
@@ -236,6 +245,183 @@ def as_plotted(script):
     return lines
 
 
+MINUTES_A_DAY = 1440
+# The encounters of examples/week.md.
+OF_WEEK = {"Test 1", *(f"Chan {n}" for n in (3, 4, 6, 7, 9, 11, 12))}
+
+
+class Planned:
+    """The lines that examples/week.py prints of scripts, the refusals in them, and the week, by the references."""
+
+    def __init__(self, scripts, once):
+        self.lines, self.refusals, self.week = [], [], Week()
+        for path, script in scripts:
+            self.take(path, script, once)
+
+    def refused(self, number):
+        self.refusals.append(number)
+        return f"refused {number}: {REFUSALS[number]}."
+
+    def take(self, path, script, once):
+        if len(script) > LONGEST_SCRIPT:
+            self.lines.append(f"{path}, byte 0: {self.refused(8)}")
+            return
+        found = list(records.records(script))
+        # Which begin a record stands below, and where the last read of each begin is.
+        below = list(itertools.accumulate(record.encounter is not None for record in found))
+        is_read = [not record.refusal and record.kind.call == "read" for record in found]
+        last = {begin: record.position for record, begin, read in zip(found, below, is_read) if read}
+        session, time, name = Session(), 0, "no encounter"
+        for record, begin, read in zip(found, below, is_read):
+            if record.refusal:
+                self.lines.append(f"{path}, byte {record.position}: {self.refused(record.refusal)}")
+            elif read:
+                if not once or last[begin] == record.position:
+                    day = time // MINUTES_A_DAY
+                    self.lines.append(f"Day {day}, {name}: {self.entered(day, session)}")
+            else:
+                if record.encounter:
+                    session, time, name = Session(), 0, "no object"
+                    if len(record.inputs) > 5:
+                        *_, number, time = record.inputs
+                        name = f"object {number} at minute {time}"
+                answer = record.called(session)
+                if answer.refusal:
+                    call = "Begin" if record.encounter else "Add"
+                    self.lines.append(f"{call}, {name}: {self.refused(answer.refusal)}")
+
+    def entered(self, day, session):
+        refusal = self.week.enter(day, session)
+        if refusal:
+            return self.refused(refusal)
+        read = session.read()
+        ends = records.decimal_text(False, read.lower), records.decimal_text(True, read.upper)
+        return "from {} to {}, {}.".format(*ends, read.class_name)
+
+    def printed(self):
+        (lower, upper), held = self.week.ends(), len(self.week.held())
+        words = [f"{end.m} × 2^{end.e}" if end.m else "0" for end in (lower, upper)]
+        lines = [*self.lines, "Held: {}. Lower end {}, upper end {}.".format(held, *words)]
+        if not held:
+            return [*lines, "Nothing is held, so these ends say nothing."]
+        said = f"The chance of at least one collision among them is at least {records.decimal_text(False, lower)}"
+        if scaled.value(upper) >= 1:
+            return [*lines, f"{said}. The upper end is 1 or more and says nothing."]
+        return [*lines, f"{said} and at most {records.decimal_text(True, upper)}."]
+
+
+def planned(scripts, once):
+    """What is due of scripts, and the command that prints it. Runs the command."""
+    due = Planned([(path.relative_to(ROOT), path.read_bytes()) for path in scripts], once)
+    paths = " ".join(str(path.relative_to(ROOT)) for path in scripts)
+    command = f"python3 examples/week.py {'--once ' if once else ''}{paths}"
+    prints(command, due.printed(), status=1 if due.refusals else 0)
+    return due, command
+
+
+def of_week():
+    """examples/week.py, as its text has it, with each script of the examples, and at the limits, by the references."""
+    text, shown = (ROOT / "examples/week.md").read_text(), []
+    parts = blocks(text)
+    for [command], said in zip(parts[::2], parts[1::2], strict=True):
+        words = re.fullmatch(r"(python3 examples/week\.py( --once)?((?: \S+\.script)+))(?: \| tail -n (\d+))?", command)
+        checks.check(words, "commands", f"another command: {command}")
+        due, full = planned([ROOT / path for path in words[3].split()], bool(words[2]))
+        checks.check(full == words[1], "commands", f"{command} is not {full}")
+        lines = due.printed()
+        if words[4]:
+            lines = lines[-int(words[4]) :]
+            prints(command, lines)
+        checks.check(lines == said, "commands", f"{command}\n  text: {said}\n   due: {lines}")
+        shown.append(due)
+    of_week_in_words(text, *shown)
+    found = set()
+    for path in sorted((ROOT / "examples").glob("*.script")):
+        for once in False, True:
+            found |= set(planned([path], once)[0].refusals)
+    checks.check(found == {1, 7, 9, 11, 12, 13, 21, 22, 23, 24}, "commands", f"refused in the examples: {sorted(found)}")
+    of_week_limits()
+    shift = "examples/shift.script"
+    is_wrong_use("python3 examples/week.py", ("", "--once", f"--twice {shift}", "target/none/of", f"{shift} examples"))
+
+
+def of_week_limits():
+    """A week that is full, days at their limits, an upper end next to 1, and scripts that are empty or are refused."""
+    test_1 = lambda time: records.begin_conjunction(*TEST_1, 1, time) + records.add(65) + records.READ
+    next_to_1 = records.begin(*NEXT_TO_1) + records.add(orders.advised(NEXT_TO_1) - 1) + records.READ
+    full = b"".join(test_1(MINUTES_A_DAY * day) for _ in range(PLACES + 1) for day in reversed(range(DAYS)))
+    last = DAYS * MINUTES_A_DAY - 1
+    times = [0, MINUTES_A_DAY - 1, MINUTES_A_DAY, last, last + 1, (1 << 32) - 1]
+    longest = test_1(0) + records.add(0) * ((LONGEST_SCRIPT - len(test_1(0))) // 3)
+    longest += records.READ * (LONGEST_SCRIPT - len(longest))
+    for name, script, once, held in (
+        ("empty", b"", False, 0),
+        ("reads alone", records.READ * 2, True, 0),
+        ("full", full, False, DAYS * PLACES),
+        ("times", b"".join(map(test_1, times)), False, 4),
+        ("next to 1", next_to_1, False, 1),
+        ("a cut begin", test_1(0) + test_1(0)[:28], False, 1),
+        ("a cut add", test_1(0) + records.add(1)[:2], False, 1),
+        ("a kind that is none", test_1(0) + b"\0" + test_1(0), False, 1),
+        ("longest", longest, True, 1),
+        ("too long", longest + records.READ, False, 0),
+    ):
+        path = ROOT / "target/planned.script"
+        path.write_bytes(script)
+        found = len(planned([path], once)[0].week.held())
+        checks.check(found == held, "commands", f"a week, {name}: {found} held")
+
+
+def of_week_in_words(text, planned_, shift, *more):
+    """What examples/week.md says of its six weeks."""
+    value, week = scaled.value, planned_.week
+    nothing, shift_once, early, late = (of_one.week for of_one in more)
+    script = (ROOT / "examples/week.script").read_bytes()
+    begun = [Encounter(*record.encounter) for record in records.records(script) if record.encounter]
+    reads = [records.printed(line) for line in records.listing(script).splitlines() if line.split()[1] == "read"]
+    is_advised = [read.N for read in reads] == list(map(orders.advised, begun))
+    names = {encounter: name for name, encounter in DOCUMENTS.items()}
+    # The one with the greatest lower end, and the one after the week.
+    [most] = [read for read in reads if read.object == 39452]
+    after = reads[-1]
+    lower, upper = week.ends()
+    share = [int(100 * value(Scaled(*end)) / value(upper)) for end in (most.lower, most.upper)]
+    above = [bracket.lower for bracket in week.held() if value(bracket.lower) > value(Scaled(*after.upper))]
+    others = [value(bracket.upper) for bracket in week.held() if bracket.lower != lower]
+    rounding = (1 + Fraction(1, 1 << 31)) ** (DAYS * PLACES - 1) - 1
+    refused = value(Scaled(*orders.at_order(Encounter(10, 10, 10, 0, 0), 13).read().lower))
+    too_early = float(value(Scaled(*orders.at_order(DOCUMENTS["Alfano 3"], 597).read().upper)))
+    twice = [line.split()[-2].removesuffix(",") for line in shift.lines if "object 43013" in line]
+    hundredths = "at least 7.647{0} and at most 8.272{0}"
+    for words, holds in (
+        ("so minute 3522 is 10:42 of day 2", (most.time, *divmod(3522, MINUTES_A_DAY)) == (3522, 2, 10 * 60 + 42)),
+        ("at minute 10085, which is 00:05 of day 7", (after.time, *divmod(10085, MINUTES_A_DAY)) == (10085, 7, 5)),
+        ("the last read of each encounter is at its advised order", is_advised),
+        ("'Seven encounters are held.", len(week.held()) == 7),
+        (hundredths.format(" hundredths"), hundredths.format("e-02") in planned_.printed()[-1]),
+        ("The lower end is that of object 39452", Scaled(*most.lower) == lower),
+        ("whose probability is the greatest", max(others) < value(lower)),
+        ("the ends are {} × 2^{} and {} × 2^{}".format(*lower, *upper), True),
+        ("Here object 39452 has 92 % of it", share == [92, 92]),
+        ("the upper end is 8.2 % above the lower end", round(1000 * (value(upper) / value(lower) - 1)) == 82),
+        ("with all 56 places filled it adds less than three parts in a hundred million", rounding < Fraction(3, 10**8)),
+        ("it is 1/100 + 1/100 − 1/10,000 = 199/10,000", 1 - Fraction(99, 100) ** 2 == Fraction(199, 10_000)),
+        ("The first read of object 39452 has 20 terms", planned_.refusals == [23, 13]),
+        ("though only one of the seven has a greater probability", above == [lower]),
+        ("Three places of day 0 were taken", week.days[0].count(None) == PLACES - 3),
+        ("five more reads fill the day", None not in shift.week.days[0] and shift.refusals == [23, 13, 24]),
+        ("(10, 10, 10, 0, 0), whose probability is at least 0.3934", Fraction("0.3934") <= refused),
+        ("The figure says 'at most 1.692e-01'", shift.printed()[-1].endswith("at most 1.692e-01.")),
+        ("An empty week has zero for both ends.", nothing.ends() == (scaled.ZERO, scaled.ZERO)),
+        ("all five encounters of the shift have a place", len(shift_once.held()) == len(week.held()) + 5),
+        ("At 597 terms the upper end is about 2.9 × 10^49.", f"{too_early:.1e}" == "2.9e+49"),
+        ("so the week's upper end says nothing", value(early.ends().upper) > 1 > value(late.ends().upper)),
+        ("has an upper end of {} with 2 terms and of {} with 17".format(*twice), len(twice) == 2),
+        ("Test 1 and Chan 3, 4, 6, 7, 9, 11 and 12 of document 000", set(map(names.get, begun)) == OF_WEEK),
+    ):
+        checks.check(words in text and holds, "commands", f"week.md: {words}: {words in text}, {holds}")
+
+
 def of_stored_script():
     """./drop_empty_adds, as README.md and two examples have it, with the script and the listing that are due."""
     stems = "stored-script", "without-empty-adds"
@@ -293,7 +479,7 @@ def main():
     _, [command], listing = blocks(section("A script, byte by byte"))
     prints(command, listing)
     [archive, *compilers, command], due, [header], *code = blocks(section("From C and C++"))
-    checks.check(len(code) == 5, "commands", f"the parts of C: {len(code)}")
+    checks.check(len(code) == 6, "commands", f"the parts of C: {len(code)}")
     checks.check(archive == "rt staticlib jinthuol", "commands", f"the library: {archive}")
     command_with_object, command_as_advised = re.findall(r"`(echo .+? \| target/example)`", section("From C and C++"))
     programs = [compiler.split()[-1] for compiler in compilers]
@@ -323,6 +509,7 @@ def main():
     of_advised_order()
     of_equal_weights()
     of_plot_records()
+    of_week()
     of_stored_script()
     checks.end()
 

@@ -1,5 +1,5 @@
 """The rounded steps, the session and the calls of document 01, as requests #101 to #106 and #108 to #110 change them;
-division.py has #107.
+division.py has #107, week_reference.py #111.
 
 A number of the steps is a triple (m, e, lost), as in rounded.py: so each number's way is what the steps say. An end is
 a pair (m, e). records.py has the script and its listing.
@@ -29,8 +29,8 @@ EXPONENTIAL_CUT = 256
 THRESHOLD_FACTOR = 10_000
 
 # Both tables of refusals, in their order, with what request #104 adds: "Kind 4 joins the accepted kinds in refusal 1."
-# Request #109 has 11 "after test 7 and before 9", request #110 12 "after test 2 and before 21". Then 10, of request
-# #107, which no record meets.
+# Request #109 has 11 "after test 7 and before 9", request #110 12 "after test 2 and before 21". Request #111 has 13
+# "before the read's own tests" and 24 "after those tests", and request #107 has 10: no record meets these three.
 REFUSALS = {
     8: "script file longer than 65,536 bytes",
     1: "no kind byte, or kind is not 1, 2, 3 or 4",
@@ -43,9 +43,11 @@ REFUSALS = {
     11: "begin: 2M above 1,026",
     9: "kind 4: object number is 0",
     12: "add: count is 0",
+    13: "enter: day number above 6",
     21: "add or read with no encounter begun",
     22: "add: N + count above 1,024",
     23: "read: 2M above N + 2",
+    24: "enter: a ninth bracket for a day",
     10: "divide: divisor 0, number not in the scaled form, or e below −1,000,000,000",
 }
 

@@ -38,7 +38,8 @@ def repository(root, folder, program):
     (source / "main.rt").write_text(program)
     (source / "words.rt").write_text(WORDS)
     listed = (root / "crates.txt").read_text()
-    (folder / "crates.txt").write_text(listed + "\ndriver: advice division encounter exact host io libc\n")
+    of_week = "week " if "use week::" in program else ""
+    (folder / "crates.txt").write_text(listed + f"\ndriver: advice division encounter exact host {of_week}io libc\n")
 
 
 class Way(NamedTuple):

@@ -1,5 +1,5 @@
 #!/usr/bin/env python3
-"""Tests reference.py, rounded.py, decimals.py, doubles.py and records.py.
+"""Tests reference.py, rounded.py, decimals.py, doubles.py, week_reference.py and records.py.
 
     python3 tests/self_test.py
 
@@ -7,10 +7,12 @@ The arithmetic is compared with scaled.py, and every stored number with document
 what is lost on its way. Wrong counts of exact terms are told from the right ones. The decimals are compared with
 request #103 by exact fractions, and its three promises are tested on them. The rounding of doubles is compared with
 Python's own subtraction. The calls, the decimals and the listing are compared with the answers of edges.py, and so are
-the advice, the ends as doubles and what is left of scripts without their empty adds.
+the advice, the ends as doubles and what is left of scripts without their empty adds. The week's sums are compared with
+those of rounded.py, and wrong weeks are told from the right one.
 """
 
 import copy
+import functools
 import math
 import random
 import struct
@@ -32,11 +34,13 @@ import records
 import reference
 import rounded
 import scaled
+import week_reference
 from checks import Checks
-from encounters import AT_64, DOCUMENTS, FIVE, HALF, LATEST, LOST_B, LOST_P, SMALL, TEST_1
+from encounters import ALFANO_3, AT_64, DOCUMENTS, FIVE, HALF, HIGHEST, LATEST, LOST_B, LOST_P, LOWEST, SMALL, TEST_1
 from records import MOST_COUNT
 from reference import EXPONENTIAL_CUT, LARGEST, LARGEST_2M, LARGEST_N, Advice, Answer, Session, Side
 from scaled import LEAST, LIMIT, ZERO, Scaled
+from week_reference import DAYS, PLACES, Ends, Week
 
 checks = Checks("self_test")
 
@@ -501,6 +505,197 @@ def of_doubles(rng):
         checks.check(ok and (record is None or record.difference > 0), "doubles", f"{inputs}: {read}")
 
 
+# The week.
+
+
+def of_week(rng):
+    """Request #111: some weeks with what is due of them, and all lists by another arithmetic."""
+
+    def check(ok, what):
+        checks.check(ok, "weeks", what)
+
+    week, test_1, chan_1 = Week(), orders.at_order(TEST_1, 66), orders.at_order(DOCUMENTS["Chan 1"], 13)
+    check(week.ends() == (ZERO, ZERO) and week.held() == [], f"an empty week: {week.ends()}")
+    for day, session, refusal, *due in (
+        (2, test_1, 0, (2627622691, -35), (2627623085, -35)),
+        (0, chan_1, 0, (2627622691, -35), (2962338876, -35)),
+        (7, test_1, 13, (2627622691, -35), (2962338876, -35)),
+        (2, test_1, 0, (2627622691, -35), (2794980981, -34)),
+        (1, orders.at_order(ALFANO_3, 597), 0, (3449859490, -35), (2640538694, 133)),
+    ):
+        kept = copy.deepcopy(session)
+        found = week.enter(day, session), *week.ends()
+        check(found == (refusal, *due) and session == kept, f"on day {day}: {found}, due: {refusal} {due}")
+    # The largest upper end and the smallest ends.
+    for encounter, N, due in (HIGHEST, LARGEST_N, (2999941209, 350)), (LOWEST, 1, (3381151276, -168)):
+        check(orders.at_order(encounter, N).read().upper == due, f"the upper end of {encounter}")
+    for name, calls in week_reference.chosen_lists(rng):
+        week = Week()
+        for n, entry in enumerate(week_reference.entries(calls)):
+            before = copy.deepcopy(week.days)
+            refusal = week.enter(entry.day, entry)
+            what = f"{name}, entry {n}"
+            check((week.days == before) == (refusal > 0), f"{what}: refused {refusal}")
+            total = rounded.ZERO
+            for held in week.held():
+                total = rounded.UP.plus(total, (*held.upper, False))
+            lower, upper = week.ends()
+            check(upper == total[:2], f"{what}: the upper end {upper}")
+            lowers = [scaled.value(held.lower) for held in week.held()]
+            check(scaled.value(lower) == max(lowers, default=0), f"{what}: the lower end {lower}")
+            if lowers:
+                check(scaled.at_most(lower, upper), f"{what}: the ends {lower} and {upper}")
+
+
+class WrongWeek(Week):
+    """A week whose ends and tests are those of the request, each as one function, for one of them to be another."""
+
+    def __init__(self, lower=None, order=None, add=None, upper=None, tests=None, place=None):
+        super().__init__()
+        self.lower, self.order, self.add, self.upper = lower, order, add, upper
+        self.tests, self.place, self.entered = tests, place, []
+
+    def enter(self, day, session):
+        refusal = self.tests(self, day, session) if self.tests else None
+        if refusal is None:
+            if self.place and day < DAYS and not session.read().refusal:
+                return self.place(self, day, Ends(*(Scaled(*end) for end in session.read()[2:4])))
+            before = self.held()
+            refusal = super().enter(day, session)
+            if not refusal:
+                self.entered += [one for one in self.held() if not any(one is old for old in before)]
+        return refusal
+
+    def ends(self):
+        held = self.held()
+        if not held:
+            return super().ends()
+        lower = self.lower([one.lower for one in held]) if self.lower else super().ends().lower
+        if self.upper:
+            return Ends(lower, self.upper([one.upper for one in held]))
+        total, add = ZERO, self.add or week_reference.plus_up
+        for one in self.order(self) if self.order else held:
+            total = add(total, one.upper)
+        return Ends(lower, total)
+
+
+def occupied(week, place, day):
+    return [week.days[day][place]] if week.days[day][place] else []
+
+
+def tests_24_first(week, day, session):
+    """24 before the read's own tests."""
+    return 24 if day < DAYS and None not in week.days[day] else None
+
+
+def tests_13_last(week, day, session):
+    """13 after the read's own tests."""
+    return session.read().refusal or None
+
+
+def tests_above_7(week, day, session):
+    """13 from day 8 on; day 7 is day 0."""
+    return Week.enter(week, 0, session) if day == 7 else None
+
+
+def tests_of_a_byte(week, day, session):
+    """The day in one byte."""
+    return Week.enter(week, day % 256, session)
+
+
+def takes_a_place(week, day, session):
+    """A refused read takes a place, with zero for both ends."""
+    if day < DAYS and session.read().refusal and None in week.days[day]:
+        week.days[day][week.days[day].index(None)] = Ends(ZERO, ZERO)
+        return session.read().refusal
+    return None
+
+
+def of_last_place(week, day, ends):
+    """The last empty place."""
+    empty = [place for place in range(PLACES) if not week.days[day][place]]
+    if not empty:
+        return 24
+    week.days[day][empty[-1]] = ends
+    return 0
+
+
+def of_ninth(week, day, ends):
+    """A ninth bracket takes the place of the eighth."""
+    if None not in week.days[day]:
+        week.days[day][-1] = ends
+        return 24
+    week.days[day][week.days[day].index(None)] = ends
+    return 0
+
+
+def of_next_day(week, day, ends):
+    """A ninth bracket goes to the next day."""
+    for later in range(day, DAYS):
+        if None in week.days[later]:
+            week.days[later][week.days[later].index(None)] = ends
+            return 0
+    return 24
+
+
+def rounded_once(uppers):
+    """U of the exact sum."""
+    return scaled.upward(sum(map(scaled.value, uppers)))
+
+
+def at_most_1(uppers):
+    """The sum of the request, or 1 where it is above 1."""
+    return min(functools.reduce(week_reference.plus_up, uppers), scaled.ONE, key=scaled.value)
+
+
+WRONG_WEEKS = {
+    "the least lower end": dict(lower=lambda lowers: min(lowers, key=scaled.value)),
+    "the first lower end": dict(lower=lambda lowers: lowers[0]),
+    "the last lower end": dict(lower=lambda lowers: lowers[-1]),
+    "the lower end by m": dict(lower=max),
+    "the lower end by e alone": dict(lower=lambda lowers: max(lowers, key=lambda end: end.e)),
+    "lower ends added": dict(lower=lambda lowers: scaled.down(sum(map(scaled.value, lowers)))),
+    "addition D": dict(add=lambda a, b: scaled.plus(False, a, b)),
+    "a sum that is rounded once": dict(upper=rounded_once),
+    "the greatest upper end": dict(upper=lambda uppers: max(uppers, key=scaled.value)),
+    "an upper end of at most 1": dict(upper=at_most_1),
+    "the order of entries": dict(order=lambda week: week.entered),
+    "from the last day": dict(order=lambda week: [one for day in week.days[::-1] for one in day if one]),
+    "from the last bracket": dict(order=lambda week: week.held()[::-1]),
+    "each day from its last place": dict(order=lambda week: [one for day in week.days for one in day[::-1] if one]),
+    "place by place": dict(
+        order=lambda week: [one for place in range(PLACES) for day in range(DAYS) for one in occupied(week, place, day)]
+    ),
+    "without the last day": dict(order=lambda week: [one for day in week.days[:-1] for one in day if one]),
+    "24 before the read": dict(tests=tests_24_first),
+    "13 after the read": dict(tests=tests_13_last),
+    "day 7 is day 0": dict(tests=tests_above_7),
+    "a day in one byte": dict(tests=tests_of_a_byte),
+    "a refused entry takes a place": dict(tests=takes_a_place),
+    "the last empty place": dict(place=of_last_place),
+    "a ninth bracket replaces the eighth": dict(place=of_ninth),
+    "a ninth bracket on the next day": dict(place=of_next_day),
+}
+
+
+def of_wrong_weeks(rng):
+    """The lists of week_reference.py tell each wrong week from the right one, and that from none."""
+    lists = [list(week_reference.entries(calls)) for _, calls in week_reference.chosen_lists(rng)]
+
+    def differs(rules):
+        for entries in lists:
+            right, wrong = Week(), WrongWeek(**rules)
+            for entry in entries:
+                found = [(week.enter(entry.day, entry), week.numbers(), week.ends()) for week in (right, wrong)]
+                if found[0] != found[1]:
+                    return True
+        return False
+
+    checks.check(not differs({}), "wrong weeks", "no rule is another")
+    for name, rules in WRONG_WEEKS.items():
+        checks.check(differs(rules), "wrong weeks", name)
+
+
 # The script.
 
 
@@ -547,6 +742,8 @@ def main():
     of_test_11()
     of_advice(rng)
     of_doubles(rng)
+    for part in of_week, of_wrong_weeks:
+        part(random.Random(options.SEED))
     of_scripts()
     of_dropping(rng)
     checks.end()

@@ -4,11 +4,11 @@
     python3 tests/texts.py
 
 The table of refusals in the definitions, README.md, docs/READING.md, the header, the C example, Rust and Python, the
-calls that the header and README.md name in it, and the refusals that are named beside each call; the session's size and
-the version in each language; the advised orders and the ends as doubles in the header; the tables of examples/*.md,
-whose decimals are those of the listings, and what their texts say of orders, lines and bytes; the listing, the bytes and
-the decimals of README.md; the titles of the documents that are cited; the files, the names in them and the must-fail
-edits that docs/ names. Exits with 1 where anything differs.
+calls that the header and README.md name in it, and the refusals that are named beside each call; the session's size,
+the week's and the version in each language; the advised orders and the ends as doubles in the header; the tables of
+examples/*.md, whose decimals are those of the listings, and what their texts say of orders, lines and bytes; the
+listing, the bytes and the decimals of README.md; the titles of the documents that are cited; the files, the names in
+them and the must-fail edits that docs/ names. Exits with 1 where anything differs.
 """
 
 import math
@@ -34,6 +34,7 @@ from exact_series import Encounter
 from markdown import README, blocks, section
 from options import ROOT
 from reference import LARGEST_2M, LARGEST_N, REFUSALS, Session
+from week_reference import DAYS, PLACES
 
 EXAMPLES = ROOT / "examples"
 
@@ -51,7 +52,13 @@ def found_in(path, pattern):
 # The tables of refusals.
 
 ALL = list(REFUSALS)
-OF_CALLS = [number for number in ALL if number in {refusal for _, refusal in edges.ANSWERS}]
+# The calls and what they may answer. Those of records come first; no record asks for an entry into a week.
+CALLS = edges.ANSWERS | edges.ENTRIES
+OF_RECORDS = sorted({refusal for _, refusal in edges.ANSWERS if refusal})
+OF_CALLS = [number for number in ALL if number in {refusal for _, refusal in CALLS}]
+# The definitions have both tests of request #111 together.
+AS_DEFINED = [number for number in ALL if number != 13]
+AS_DEFINED.insert(AS_DEFINED.index(24), 13)
 # Where a table stands, how a row of it looks, and the numbers that it has, in their order.
 TABLES = (
     ("README.md", r"^\| (\d+) \| (.*?) \| \D.*\|.*\|$", ALL),
@@ -61,7 +68,7 @@ TABLES = (
     ("bindings/c/example.c", r'case (\d+):\s+return "(.*)";', [number for number in OF_CALLS if number != 12]),
     ("bindings/rust/src/refusal.rs", r'^ +(\d+) => "(.*)",$', sorted(ALL)),
     ("bindings/python/jinthuol.py", r'^ +(\d+): "(.*)",$', sorted(ALL)),
-    ("crates/exact/specs/Refusals.antt", r"^ *-- (\d+): (.*?)(?:;.*)?$", ALL),
+    ("crates/exact/specs/Refusals.antt", r"^ *-- (\d+): (.*?)(?:;.*)?$", AS_DEFINED),
 )
 
 
@@ -79,8 +86,8 @@ def of_refused_calls():
     tables = ("bindings/c/jinthuol.h", r"^ \* +(\d+)  .*? +\(([\w, ]+)\)$"), ("README.md", r"^\| (\d+) \| [^|]+ \| ([\w, ]+) \| ")
     for path, pattern in tables:
         rows = dict(found_in(path, pattern))
-        for number in sorted({refusal for _, refusal in edges.ANSWERS if refusal}):
-            due = {call for call, refusal in edges.ANSWERS if refusal == number}
+        for number in OF_CALLS:
+            due = {call for call, refusal in CALLS if refusal == number}
             calls = rows.get(str(number), "").replace("both begins", "begin, begin_conjunction")
             calls = "begin, begin_conjunction" if calls == "begin" else calls.replace("begin of kind 4", "begin_conjunction")
             same("refusals", f"{path}, the calls of {number}", sorted(calls.split(", ")), sorted(due))
@@ -92,11 +99,14 @@ LIST = r"\d+(?: to \d+)?(?:(?:,| or) \d+(?: to \d+)?)*"
 NAMED_REFUSALS = (
     (["bindings/c/jinthuol.h"], rf"Refused as (?P<words>{LIST})(?:(?!\*/).)*\*/ \w+ jinthuol_(?P<call>\w+)\("),
     (
-        ["bindings/rust/src/session.rs", "bindings/rust/src/doubles.rs"],
+        ["bindings/rust/src/session.rs", "bindings/rust/src/doubles.rs", "bindings/rust/src/week.rs"],
         rf"Refused as (?P<words>{LIST})(?:(?! fn ).)* fn (?P<call>\w+)\(",
     ),
     (["bindings/python/jinthuol.py"], rf'def (?P<call>\w+)\(self[^)]*\): """(?:(?!""").)*Refused as (?P<words>{LIST})'),
-    (["README.md"], rf"\| `(?P<call>\w+)\(session[^|]*\| [^|]*?or (?:a refusal )?(?P<words>{LIST})(?: and [^|]*)? \|"),
+    (
+        ["README.md"],
+        rf"\| `(?P<call>\w+)\((?:week, day, )?session[^|]*\| [^|]*?or (?:a refusal )?(?P<words>{LIST})(?: and [^|]*)? \|",
+    ),
 )
 
 
@@ -109,7 +119,7 @@ def numbers_of(words):
 def of_named_refusals():
     """A text names all refusals of a call, and no other; README.md also all after which a listing goes on."""
     due = {}
-    for call, refusal in sorted(edges.ANSWERS):
+    for call, refusal in sorted(CALLS):
         if refusal:
             due.setdefault(call, []).append(refusal)
     for paths, pattern in NAMED_REFUSALS:
@@ -119,7 +129,7 @@ def of_named_refusals():
         named = {call: numbers for call, numbers in named.items() if call in due}
         same("refusals", f"the refusals of each call in {' and '.join(paths)}", named, due)
     words = re.findall(rf"after refusals ({LIST} and {LIST}) it goes on", README)
-    same("refusals", "README.md: after which a listing goes on", list(map(numbers_of, words)), [sorted(OF_CALLS)])
+    same("refusals", "README.md: after which a listing goes on", list(map(numbers_of, words)), [OF_RECORDS])
 
 
 # The session's size and the version.
@@ -130,6 +140,12 @@ SIZES = (
     ("bindings/rust/src/session.rs", r"words: \[u32; (\d+)\]"),
     ("bindings/rust/src/lib.rs", r"words: \[0; (\d+)\]"),
     ("bindings/python/jinthuol.py", r"c_uint32 \* (\d+)"),
+)
+# The days of a week and the places of a day, where they stand.
+WEEKS = (
+    ("bindings/c/jinthuol.h", r"jinthuol_bracket days\[(?P<days>\d+)\]\[(?P<places>\d+)\];"),
+    ("bindings/rust/src/week.rs", r"days: \[\[ffi::Bracket; (?P<places>\d+)\]; (?P<days>\d+)\]"),
+    ("bindings/python/jinthuol.py", r"Bracket \* (?P<places>\d+) \* (?P<days>\d+)"),
 )
 VERSIONS = (
     ("crates/jinthuol/specs/Version.antt", r"^version = (\d+)$"),
@@ -143,6 +159,9 @@ VERSIONS = (
 def of_bindings():
     for path, number in SIZES:
         same("sizes", f"the session's words in {path}", found_in(path, number), [str(len(fields.SESSION))])
+    for path, pattern in WEEKS:
+        found = [one.groupdict() for one in re.finditer(pattern, (ROOT / path).read_text())]
+        same("sizes", f"the week in {path}", found, [{"days": str(DAYS), "places": str(PLACES)}])
     versions = {path: found_in(path, number) for path, number in VERSIONS}
     first = versions[VERSIONS[0][0]]
     for path, found in versions.items():

@@ -1,15 +1,17 @@
 /* Brackets of encounters from standard input, one a line: R sx sy xm ym N, or R sx sy xm ym N object time. Begins the encounter, with
  * the object number and the time of closest approach where the line has them, adds N - 1 terms, reads, and prints the three answers in the words of a
- * listing; after a read both ends once more as doubles; with a refusal its condition. A read has three lines more: where rounding starts, its ends as the plotting
- * tool reads them, and the record that the tool stores.
+ * listing; after a read both ends once more as doubles; with a refusal its condition. A read has four lines more: where rounding starts, its ends as the plotting
+ * tool reads them, the record that the tool stores, and the day of the week into which it is entered: 0 to 6, in days of 1,440 minutes, by the time of closest
+ * approach.
  * With an N of 1 no term is added, and there are two answers. An N of 0 stands for the advised order, which is printed too; where there is none, nothing is added
- * or read.
+ * or read. The last line has both ends of the week, in the words of a listing too.
  *
  *     rt staticlib jinthuol
  *     gcc -std=c99 -I bindings/c bindings/c/example.c target/staticlib/libjinthuol.a -lm -o target/example
  *     echo 500 5000 100 1000 0 55 | target/example
  *     echo 500 5000 100 1000 0 55 25544 1440 | target/example
  *     echo 500 5000 100 1000 0 0 | target/example
+ *     printf '500 5000 100 1000 0 55 25544 1440\n500 5000 2500 1000 0 0 27386 642\n' | target/example
  *
  * As C++: g++ -std=c++11 -I bindings/c -x c++ bindings/c/example.c -x none target/staticlib/libjinthuol.a -o target/example-cpp */
 #include <inttypes.h>
@@ -38,12 +40,16 @@ static const char *condition(uint32_t refusal)
         return "begin: 2M above 1,026";
     case 9:
         return "kind 4: object number is 0";
+    case 13:
+        return "enter: day number above 6";
     case 21:
         return "add or read with no encounter begun";
     case 22:
         return "add: N + count above 1,024";
     case 23:
         return "read: 2M above N + 2";
+    case 24:
+        return "enter: a ninth bracket for a day";
     default:
         return "no such refusal";
     }
@@ -154,6 +160,35 @@ static void print_plotted(jinthuol_plotted a)
     }
 }
 
+/* Enters a session that is read into the week, and says on which day. */
+static void enter(jinthuol_week *week, uint32_t day, jinthuol_session session)
+{
+    jinthuol_entered a = jinthuol_enter(*week, day, session);
+    if (a.refusal != 0) {
+        print_refusal(a.refusal);
+    } else {
+        printf("entered on day %" PRIu32 "\n", day);
+    }
+    *week = a.week;
+}
+
+static void print_week(jinthuol_week week)
+{
+    int held = 0;
+
+    for (int day = 0; day < 7; day++) {
+        for (int place = 0; place < 8; place++) {
+            held += week.days[day][place].held == 1;
+        }
+    }
+    jinthuol_ends a = jinthuol_week_ends(week);
+    printf("week of %d:", held);
+    printf(" %" PRIu32 " %" PRId32 " %" PRIu32 " %" PRId32, a.lower.m, a.lower.e, a.upper.m, a.upper.e);
+    print_decimal(false, a.lower);
+    print_decimal(true, a.upper);
+    printf("\n");
+}
+
 static void print_advice(jinthuol_advice a)
 {
     if (a.refusal != 0) {
@@ -208,6 +243,7 @@ int main(void)
         fprintf(stderr, "the library has version %" PRIu32 ", its header %d\n", jinthuol_version(), JINTHUOL_VERSION);
         return 1;
     }
+    jinthuol_week week = jinthuol_empty_week();
     while (fgets(line, sizeof line, stdin) != NULL) {
         long long x[MOST];
         int whole = strchr(line, '\n') != NULL || feof(stdin);
@@ -247,14 +283,19 @@ int main(void)
         if (x[N] > 1) {
             print_order("added", jinthuol_add(&session, (uint16_t)(x[N] - 1)));
         }
-        print_read(jinthuol_read(session));
+        jinthuol_answer answer = jinthuol_read(session);
+        print_read(answer);
         print_doubles(jinthuol_read_doubles(session));
         print_plotted(jinthuol_read_plot_record(session));
+        if (answer.refusal == 0) {
+            enter(&week, answer.time / 1440, session);
+        }
     }
     if (ferror(stdin)) {
         fprintf(stderr, "not all was read\n");
         return 1;
     }
+    print_week(week);
     if (fflush(stdout) != 0 || ferror(stdout)) {
         fprintf(stderr, "not all was written\n");
         return 1;

@@ -11,6 +11,9 @@
  *     jinthuol_divide(true, answer.upper, 3)                    0 and 3503497447 x 2^-37: a third of the upper end, rounded up
  *     jinthuol_read_doubles(session)                            0, JINTHUOL_BOTH and both ends as doubles: about 0.0764738853 and 0.0764738968
  *     jinthuol_read_plot_record(session)                        0, JINTHUOL_BOTH and object 0, both ends, and the double upper - lower: about 1.15e-08
+ *     jinthuol_week week = jinthuol_empty_week();               seven days of eight places, all empty
+ *     week = jinthuol_enter(week, 2, session).week;             day 2 has the ends of a read in its first place; where it is refused, the week as it was
+ *     jinthuol_week_ends(week)                                  the greatest lower end, and the upper ends added: of one bracket they are its own
  *     jinthuol_conjunction conjunction = {test_1, 25544, 1440}; object 25544, at minute 1440
  *     jinthuol_begin_conjunction(&session, conjunction);        N is 1; reads answer 25544 and 1440
  *
@@ -30,22 +33,24 @@
  *     11  begin: 2M above 1,026                            (both begins)
  *      9  kind 4: object number is 0                       (begin_conjunction)
  *     12  add: count is 0                                  (add)
- *     21  add or read with no encounter begun              (add, read, advise, read_doubles, read_plot_record)
+ *     13  enter: day number above 6                        (enter)
+ *     21  add or read with no encounter begun              (add, read, advise, read_doubles, read_plot_record, enter)
  *     22  add: N + count above 1,024                       (add)
- *     23  read: 2M above N + 2                             (read, read_doubles, read_plot_record)
+ *     23  read: 2M above N + 2                             (read, read_doubles, read_plot_record, enter)
+ *     24  enter: a ninth bracket for a day                 (enter)
  *     10  divide: divisor 0, number not in the scaled form, or e below -1,000,000,000   (divide)
  *
  * 7 in plain words: (xm/sx)^2 + (ym/sy)^2 + (R/sy)^2, which is 2t, is above 128; t is rounded up first. 11: the radius and the miss are both several standard
  * deviations (README.md, 'The five inputs'); a read would be refused as 23 at every order up to 1,024, the largest. 9: `kind 4` is the record of a script that asks
- * for begin_conjunction. 12: where no term is wanted, make no add. 23: too few terms are added for the bound of those left out; a read needs N of at least 2M - 2.
- * 10: the scaled form is that of jinthuol_scaled below. Every end and every quotient has it. No end of a read has so low an e; a quotient's e is at most 32 below
- * its number's. README.md has examples.
+ * for begin_conjunction. 12: where no term is wanted, make no add. 13: the days of a week are 0 to 6. 23: too few terms are added for the bound of those left out; a
+ * read needs N of at least 2M - 2. 24: all eight places of the day are taken, and no call empties one. 10: the scaled form is that of jinthuol_scaled below. Every end
+ * and every quotient has it. No end of a read has so low an e; a quotient's e is at most 32 below its number's. README.md has examples.
  *
  * What a caller sees to. No pointer may be null, also where its length is 0. C converts a number to the type of its parameter or field without a word:
  * test first that it fits.
  *
- * Threads. The library has no state of its own and starts no thread: all that is kept is in the sessions, which are the caller's. Calls on different
- * sessions may run at the same time; while a begin or an add runs, nobody else may read or write its session.
+ * Threads. The library has no state of its own and starts no thread: all that is kept is in the sessions and the weeks, which are the caller's. Calls on different
+ * sessions may run at the same time; while a begin or an add runs, nobody else may read or write its session. A week goes into a call and comes out of it by value.
  *
  * Versions. This header and libjinthuol.a belong together, as one version of the repository has them: the structs are laid out as both say, and nothing
  * else checks that. A program that may meet another library tests jinthuol_version() == JINTHUOL_VERSION first. */
@@ -61,7 +66,7 @@ extern "C" {
 #endif
 
 /* One more with each change of a struct or a function of this header, or of what a function answers. */
-#define JINTHUOL_VERSION 10
+#define JINTHUOL_VERSION 11
 
 /* The five inputs, in whole centimetres: combined radius R, larger standard deviation sx, smaller sy, mean miss xm and ym, along the principal axes of
  * the covariance in the encounter plane. */
@@ -158,6 +163,32 @@ typedef struct {
     jinthuol_plot_record record;
 } jinthuol_plotted;
 
+/* A place of a week. held is 1 where it has the two ends of a read, and 0 where it is empty; then every other field is 0 too, and that 0 is no end. */
+typedef struct {
+    uint32_t held;
+    jinthuol_scaled lower;
+    jinthuol_scaled upper;
+} jinthuol_bracket;
+
+/* A week: seven days, 0 to 6, of eight places. The places of a day are filled from the first on. Anyone may look at them, but only the functions below write them:
+ * each asks that its week came from jinthuol_empty_week and then from jinthuol_enter alone. It is plain data: a copy of it is a week too. With zero in every field it
+ * is the empty week. */
+typedef struct {
+    jinthuol_bracket days[7][8];
+} jinthuol_week;
+
+/* The refusal's number, or 0; then the week, which is as it was where it is refused. */
+typedef struct {
+    uint32_t refusal;
+    jinthuol_week week;
+} jinthuol_entered;
+
+/* The lower and the upper end of a week. */
+typedef struct {
+    jinthuol_scaled lower;
+    jinthuol_scaled upper;
+} jinthuol_ends;
+
 /* The bytes of the buffer that are used, and whether they are the whole listing. */
 typedef struct {
     size_t used;
@@ -209,6 +240,19 @@ jinthuol_doubles jinthuol_read_doubles(jinthuol_session session);
  * one subtraction of doubles, rounded to the nearest, a tie to the even one, where the program has not changed the rounding mode (the ends do not depend on it). There
  * is no record where the upper end is 1 or more. Refused as 21 or 23, as a read is. It changes nothing. */
 jinthuol_plotted jinthuol_read_plot_record(jinthuol_session session);
+
+/* A week with every place empty. */
+jinthuol_week jinthuol_empty_week(void);
+
+/* Makes a read of the session and puts its two ends into the next empty place of the day, 0 to 6. Refused as 13, 21, 23 or 24: as 13 before the tests of the read,
+ * where day is above 6, and as 24 after them, where the day has eight brackets already. The answer has the week after it; any refusal, the read's own too, leaves it
+ * as it was. The session is not changed. An encounter that is entered twice counts twice in the week's upper end. */
+jinthuol_entered jinthuol_enter(jinthuol_week week, uint32_t day, jinthuol_session session);
+
+/* One figure for the week: lower is the greatest lower end held, and upper is the upper ends added in the order of days and places, each sum rounded up to a scaled
+ * number. The chance of at least one collision in the encounters that are held lies between, independent or not. An upper end of 1 or more says nothing. An empty week
+ * has zero for both. An encounter whose entry was refused is not in the figure. */
+jinthuol_ends jinthuol_week_ends(jinthuol_week week);
 
 /* The listing of a script of records, on a session of its own; `0 refused 8` where the script has more than 65,536 bytes.
  * A line is written only while 150 bytes of the buffer are left; where fewer are left before the listing's end, it is cut between two lines

@@ -82,6 +82,29 @@ Where the upper end is 1 or more, there is the lower end alone, and no record:
     >>> print(session.read_plot_record())
     no record: the upper end is 1 or more
 
+A week has seven days, 0 to 6, of eight places. A read of a session is entered into the next empty place of a day:
+
+    >>> week = jinthuol.Week.empty()
+    >>> print(session.begin_conjunction(conjunction), session.add(65), week.enter(2, session), sep=", ")
+    N = 1, N = 66, entered
+    >>> print(session.begin(jinthuol.Encounter(R=500, sx=5000, sy=2500, xm=1000, ym=0)), session.add(12))
+    N = 1 N = 13
+    >>> print(week.enter(0, session), week.enter(7, session), sep=", ")
+    entered, refused 13: enter: day number above 6
+    >>> print(week.days[2][0])
+    2627622691 × 2^-35 to 2627623085 × 2^-35, 7.647e-02 to 7.648e-02
+    >>> print(week.days[2][1])
+    None
+
+The chance of at least one collision in these encounters lies between the week's two ends, independent or not:
+
+    >>> print(week.ends())
+    2627622691 × 2^-35 to 2962338876 × 2^-35, 7.647e-02 to 8.622e-02
+    >>> print(*week.ends().decimals)
+    7.647e-02 8.622e-02
+    >>> week.ends().floats
+    (0.07647388530313037, 0.08621540840249509)
+
 The library libjinthuol.a is in the folder that JINTHUOL_LIB_DIR names, else in target/staticlib of the repository,
 where `rt staticlib jinthuol` writes it. At the first import gcc links it into a shared object beside it,
 libjinthuol.so; later imports take that. Where there is no library, or it cannot be linked or is of another version,
@@ -100,7 +123,7 @@ from fractions import Fraction
 from typing import NamedTuple, Optional
 
 # JINTHUOL_VERSION of bindings/c/jinthuol.h.
-VERSION = 10
+VERSION = 11
 
 # The condition of each refusal. 1, 2 and 8 are in listings only.
 REFUSALS = {
@@ -116,9 +139,11 @@ REFUSALS = {
     10: "divide: divisor 0, number not in the scaled form, or e below −1,000,000,000",
     11: "begin: 2M above 1,026",
     12: "add: count is 0",
+    13: "enter: day number above 6",
     21: "add or read with no encounter begun",
     22: "add: N + count above 1,024",
     23: "read: 2M above N + 2",
+    24: "enter: a ninth bracket for a day",
 }
 CLASSES = ("clear", "alert", "open")
 # JINTHUOL_UNBOUNDED and JINTHUOL_BOTH; the tag of a refusal is 0.
@@ -146,12 +171,16 @@ class Conjunction(NamedTuple):
     time: int
 
 
+def listed(value):
+    """The value of a field; of an array, or an array of arrays, the list."""
+    return list(map(listed, value)) if isinstance(value, ctypes.Array) else value
+
+
 class Struct(ctypes.Structure):
     """A struct of the library. Two are equal where all their fields are."""
 
     def values(self):
-        found = [getattr(self, name) for name, _ in self._fields_]
-        return [list(value) if isinstance(value, ctypes.Array) else value for value in found]
+        return [listed(getattr(self, name)) for name, _ in self._fields_]
 
     def __eq__(self, other):
         return self.values() == other.values() if type(other) is type(self) else NotImplemented
@@ -429,10 +458,60 @@ class PlottedOutput(Struct):
         return Plotted(self.refusal, PlotRecord(*self.record.values()) if self.tag == BOTH else None)
 
 
+class Ends(Struct):
+    """A lower and an upper end: of a week, or of a read that it holds. An empty week has zero for both."""
+
+    _fields_ = [("lower", Scaled), ("upper", Scaled)]
+
+    @property
+    def floats(self):
+        """Both ends: the floats that they are, or the next ones outward."""
+        return self.lower.float_down(), self.upper.float_up()
+
+    @property
+    def decimals(self):
+        """Both ends in decimal."""
+        return self.lower.decimal_down(), self.upper.decimal_up()
+
+    def __str__(self):
+        lower, upper = self.decimals
+        return f"{self.lower} to {self.upper}, {lower} to {upper}"
+
+
+class Entered(NamedTuple):
+    """The refusal's number, or 0."""
+
+    refusal: int
+
+    def __str__(self):
+        return refused(self.refusal) if self.refusal else "entered"
+
+
 class Kept(Struct):
     """What a session keeps. Only the library writes it."""
 
     _fields_ = [("words", c_uint32 * 60)]
+
+
+class Bracket(Struct):
+    """A place of a week as the library has it: 1 and the two ends of a read, or 0 in every field."""
+
+    _fields_ = [("held", c_uint32), ("lower", Scaled), ("upper", Scaled)]
+
+    def ends(self):
+        return Ends(self.lower, self.upper) if self.held else None
+
+
+class KeptWeek(Struct):
+    """What a week keeps. Only the library writes it."""
+
+    _fields_ = [("days", Bracket * 8 * 7)]
+
+
+class EnteredOutput(Struct):
+    """The refusal's number, or 0; then the week after the entry."""
+
+    _fields_ = [("refusal", c_uint32), ("week", KeptWeek)]
 
 
 class Listing(Struct):
@@ -491,6 +570,9 @@ def load():
         ("advise", Advice, Kept),
         ("read_doubles", DoublesOutput, Kept),
         ("read_plot_record", PlottedOutput, Kept),
+        ("empty_week", KeptWeek),
+        ("enter", EnteredOutput, KeptWeek, c_uint32, Kept),
+        ("week_ends", Ends, KeptWeek),
         ("to_decimal", Decimal, c_bool, Scaled),
         ("divide", Divided, c_bool, Scaled, c_uint32),
         ("run", Listing, c_char_p, c_size_t, POINTER(c_char), c_size_t),
@@ -576,6 +658,46 @@ class Session:
         Refused as 21 or 23, as read is.
         """
         return LIBRARY.jinthuol_read_plot_record(self.kept).plotted()
+
+
+class Week:
+    """Seven days, 0 to 6, of eight places, each empty or with the two ends of a read."""
+
+    def __init__(self, kept):
+        self.kept = kept
+
+    @classmethod
+    def empty(cls):
+        """A week with every place empty."""
+        return cls(LIBRARY.jinthuol_empty_week())
+
+    def enter(self, day, session):
+        """Makes a read of the session and puts its two ends into the next empty place of the day. Gives an Entered.
+
+        Refused as 13, 21, 23 or 24: as 13 before the tests of the read, where the day is above 6, and as 24 after them,
+        where the day has eight brackets already. Any refusal leaves the week as it was. The session is not changed. An
+        encounter that is entered twice counts twice in the upper end. A day that does not fit 32 bits raises
+        struct.error, and what is no Session TypeError.
+        """
+        struct.pack("=I", day)
+        if not isinstance(session, Session):
+            raise TypeError(f"a Session is due, not {session!r}")
+        entered = LIBRARY.jinthuol_enter(self.kept, day, session.kept)
+        self.kept = entered.week
+        return Entered(entered.refusal)
+
+    def ends(self):
+        """An Ends: the greatest lower end held, and the upper ends added, in the order of days and places.
+
+        Each sum is rounded up to a scaled number. The chance of at least one collision in the encounters that are held
+        lies between, independent or not. Both are zero where the week is empty.
+        """
+        return LIBRARY.jinthuol_week_ends(self.kept)
+
+    @property
+    def days(self):
+        """The places of each day, as lists: each an Ends, or None where it is empty."""
+        return [[place.ends() for place in day] for day in self.kept.days]
 
 
 def run(script):

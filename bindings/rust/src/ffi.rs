@@ -8,6 +8,7 @@ use crate::decimal::Decimal;
 use crate::doubles::PlotRecord;
 use crate::script::Listing;
 use crate::session::{Conjunction, Encounter, Session};
+use crate::week::{Ends, Week};
 
 /// The refusal's number, or 0; then the order N, both ends, the class, the object number, the time and the count of exact
 /// terms. The class is a number here: an enum of Rust would trust the library to give no other number than its own.
@@ -60,9 +61,25 @@ pub struct Plotted {
     pub record: PlotRecord,
 }
 
-// `safe`: the types of these eleven say all that they trust, but that the library has this crate's
-// version, which `Session::empty`, `run_into`, the decimals and the divisions test first. A reference is valid, and not shared while
-// it is lent. A `Session` came from these calls, since nothing else writes its private field.
+/// A place of a week: 1 and the two ends of a read, or 0 in every field where it is empty.
+#[repr(C)]
+#[derive(Clone, Copy, Debug, PartialEq, Eq)]
+pub struct Bracket {
+    pub held: u32,
+    pub lower: Scaled,
+    pub upper: Scaled,
+}
+
+/// The refusal's number, or 0; then the week, as it was where it is refused.
+#[repr(C)]
+pub struct Entered {
+    pub refusal: u32,
+    pub week: Week,
+}
+
+// `safe`: the types of these fourteen say all that they trust, but that the library has this crate's
+// version, which `Session::empty`, `Week::empty`, `run_into`, the decimals and the divisions test first. A reference is valid, and
+// not shared while it is lent. A `Session` and a `Week` came from these calls, since nothing else writes their private fields.
 unsafe extern "C" {
     /// Trusts nothing.
     pub safe fn jinthuol_version() -> u32;
@@ -90,6 +107,15 @@ unsafe extern "C" {
 
     /// Trusts that the session came from these calls.
     pub safe fn jinthuol_read_plot_record(session: Session) -> Plotted;
+
+    /// Trusts nothing.
+    pub safe fn jinthuol_empty_week() -> Week;
+
+    /// Trusts that the week and the session came from these calls. Any day will do.
+    pub safe fn jinthuol_enter(week: Week, day: u32, session: Session) -> Entered;
+
+    /// Trusts that the week came from these calls.
+    pub safe fn jinthuol_week_ends(week: Week) -> Ends;
 
     /// Trusts nothing. Any m and e will do.
     pub safe fn jinthuol_to_decimal(up: bool, number: Scaled) -> Decimal;

@@ -1,7 +1,7 @@
 //! A proved bracket of the collision probability of one short encounter: the calls of libjinthuol.a.
 //!
-//! Lengths are whole centimetres. The library has one premise, that a session came from its own
-//! calls. It holds of every [`Session`]: safe code gets one only from these calls or as a copy of one.
+//! Lengths are whole centimetres. The library has one premise, that a session and a week came from its own
+//! calls. It holds of every [`Session`] and of every [`Week`]: safe code gets one only from these calls or as a copy of one.
 //!
 //! ```
 //! use jinthuol::{Class, Encounter, Refusal, Session};
@@ -102,10 +102,36 @@
 //! # Ok::<(), Refusal>(())
 //! ```
 //!
-//! A session cannot be put together from numbers:
+//! A week has one figure for up to eight encounters a day: the chance of at least one collision in them lies between the
+//! week's ends, independent or not.
+//!
+//! ```
+//! use jinthuol::{Encounter, Refusal, Session, Week};
+//!
+//! let mut session = Session::empty();
+//! session.begin(Encounter { R: 500, sx: 5000, sy: 100, xm: 1000, ym: 0 })?;
+//! session.add(65)?;
+//! let mut week = Week::empty();
+//! week.enter(2, &session)?;
+//! session.begin(Encounter { R: 500, sx: 5000, sy: 2500, xm: 1000, ym: 0 })?;
+//! session.add(12)?;
+//! week.enter(0, &session)?;
+//! let ends = "2627622691 × 2^-35 to 2962338876 × 2^-35";
+//! assert_eq!(week.ends().to_string(), format!("{ends}, 7.647e-02 to 8.622e-02"));
+//! assert_eq!(week.days()[2][0].unwrap().lower, week.ends().lower);
+//! assert_eq!(week.days()[2][1], None);
+//! assert_eq!(week.enter(7, &session), Err(Refusal(13)));
+//! # Ok::<(), Refusal>(())
+//! ```
+//!
+//! A session cannot be put together from numbers, nor can a week:
 //!
 //! ```compile_fail,E0451
 //! let session = jinthuol::Session { words: [0; 60] };
+//! ```
+//!
+//! ```compile_fail,E0451
+//! let week = jinthuol::Week { days: todo!() };
 //! ```
 #![deny(missing_docs, unsafe_code, unsafe_op_in_unsafe_fn)]
 
@@ -125,6 +151,8 @@ mod refusal;
 mod script;
 #[forbid(unsafe_code)]
 mod session;
+#[forbid(unsafe_code)]
+mod week;
 
 pub use answer::{Answer, Class, Scaled};
 pub use decimal::Decimal;
@@ -132,17 +160,18 @@ pub use doubles::{Doubles, PlotRecord};
 pub use refusal::Refusal;
 pub use script::{run, run_into, Listing};
 pub use session::{Conjunction, Encounter, Session};
+pub use week::{Ends, Week};
 
 /// The version of the library's functions that this crate is for: JINTHUOL_VERSION of bindings/c/jinthuol.h.
-pub const VERSION: u32 = 10;
+pub const VERSION: u32 = 11;
 
 /// The version of the library that this crate was linked with. Where it is not [`VERSION`], [`Session::empty`],
-/// [`run`], [`run_into`], and the decimals and divisions of a [`Scaled`] panic: the structs may be others.
+/// [`Week::empty`], [`run`], [`run_into`], and the decimals and divisions of a [`Scaled`] panic: the structs may be others.
 pub fn library_version() -> u32 {
     ffi::jinthuol_version()
 }
 
-/// Every session, every listing, every decimal and every division starts here.
+/// Every session, every week, every listing, every decimal and every division starts here.
 fn assert_version() {
     assert_eq!(library_version(), VERSION, "libjinthuol.a is of another version than this crate");
 }

@@ -23,9 +23,11 @@ impl Refusal {
             10 => "divide: divisor 0, number not in the scaled form, or e below −1,000,000,000",
             11 => "begin: 2M above 1,026",
             12 => "add: count is 0",
+            13 => "enter: day number above 6",
             21 => "add or read with no encounter begun",
             22 => "add: N + count above 1,024",
             23 => "read: 2M above N + 2",
+            24 => "enter: a ninth bracket for a day",
             _ => "no such refusal",
         }
     }

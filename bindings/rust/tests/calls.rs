@@ -280,7 +280,7 @@ fn refusals_in_words() {
     assert_eq!(Refusal(7).to_string(), "refused 7: upper t above 64");
     assert_eq!(Refusal(11).to_string(), "refused 11: begin: 2M above 1,026");
     assert_eq!(Refusal(12).to_string(), "refused 12: add: count is 0");
-    for number in [1, 2, 3, 4, 5, 6, 7, 8, 9, 10, 11, 12, 21, 22, 23] {
+    for number in [1, 2, 3, 4, 5, 6, 7, 8, 9, 10, 11, 12, 13, 21, 22, 23, 24] {
         assert!(!Refusal(number).to_string().contains("no such"));
     }
     assert_eq!(Refusal(20).to_string(), "refused 20: no such refusal");

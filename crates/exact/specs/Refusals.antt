@@ -132,9 +132,13 @@ refuses-13 day = leb days-a-week day
 unfoldable pub refuses-24 : (place : ℕ) → Bool
 refuses-24 place = leb places-a-day place
 
+-- earlier is the number that the read's tests give
+unfoldable pub test-24 : (earlier place : ℕ) → ℕ
+test-24 earlier place = cond (eqb earlier 0) (cond (refuses-24 place) 24 0) earlier
+
 -- the number under which an entry is refused, or 0: 13, the read's 21 and 23, 24
 unfoldable pub entry-refusal : History → (day place : ℕ) → ℕ
-entry-refusal w day place = cond (refuses-13 day) 13 (cond (eqb (refusal w read) 0) (cond (refuses-24 place) 24 0) (refusal w read))
+entry-refusal w day place = cond (refuses-13 day) 13 (test-24 (refusal w read) place)
 
 -- ---- request #107: "It refuses, as 10 and with zero as the result, a divisor of 0, a number not in the scaled form, or one whose e is below −1,000,000,000."
 

@@ -5,13 +5,14 @@ use Prim.Native.Nat.{ℕ, _≤_, _<_}
 use native.Mathlib.Omega.{arith}
 use lib.ListN.{getD, set}
 use Rattle.exact.specs.Numbers.{days-a-week, places-a-day}
+use Rattle.exact.specs.Refusals.{test-24, entry-refusal}
 use Rattle.encounter.specs.declared.state.Session.{Session}
 use Rattle.encounter.specs.declared.state.Answer.{Answer}
 use Rattle.encounter.specs.Calls.{history-of, reads, call, Reached}
 use Rattle.week.specs.declared.Bracket.{Bracket}
 use Rattle.week.specs.Week.{Week, day-of, next-place, ends-of, entered, enter}
 use Rattle.week.specs.Told.{FromCalls, tell, after}
-use Rattle.week.proofs.Tests.{test-13, test-read, test-24, test-passed, stays, goes-in, read-number}
+use Rattle.week.proofs.Tests.{test-13, test-rest, enters, stays, goes-in, read-number}
 
 -- v is the week after the entry and r what is answered
 abbrev pub Promised : Week → ℕ → Session → (v : Week) (r : ℕ) → Type 0
@@ -28,18 +29,19 @@ module _ {w : Week} {s : Session} (f : FromCalls w) (reached : Reached s) (day :
   pub refused-13 : days-a-week ≤ day → Promised w day s w 13
   refused-13 l = keeps (stays w day s (test-13 (history-of s) day (next-place (day-of w day)) l) (λ z. omega (arith, z)))
 
-  module _ (in-week : day < days-a-week) {a : Answer} (is : a ≡ call reads s .answer) where
-    pub refused-as-read : (a .refusal ≡ 0 → ⊥) → Promised w day s w (a .refusal)
-    refused-as-read n =
-        let e = ap (λ (a : Answer). a .refusal) is ∙ read-number s in
-        keeps (stays w day s (e ∙ test-read (history-of s) day (next-place (day-of w day)) in-week (λ z. n (e ∙ z))) n)
+  module _ (in-week : day < days-a-week) {a : Answer} (is : a ≡ call reads s .answer) {p : ℕ} (place : p ≡ next-place (day-of w day)) {r : ℕ} (tested : r ≡ test-24 (a .refusal) p) where
+    number-is : r ≡ entry-refusal (history-of s) day (next-place (day-of w day))
+    number-is =
+        tested ∙ (λ i. test-24 ((ap (λ (a : Answer). a .refusal) is ∙ read-number s) i) (place i)) ∙ test-rest (history-of s) day (next-place (day-of w day)) in-week
 
-    module _ (accepted : a .refusal ≡ 0) {p : ℕ} (place : p ≡ next-place (day-of w day)) where
-      pub refused-24 : p ≡ places-a-day → Promised w day s w 24
-      refused-24 full =
-          keeps (stays w day s (test-24 (history-of s) day (next-place (day-of w day)) in-week (sym (read-number s) ∙ ap (λ (a : Answer). a .refusal) (sym is) ∙ accepted) (omega (arith, place, full))) (λ z. omega (arith, z)))
+    pub refused-later : (r ≡ 0 → ⊥) → Promised w day s w r
+    refused-later n = keeps (stays w day s number-is n)
 
-      pub put-in : p < places-a-day → {b : Bracket} → b ≡ ends-of a → Promised w day s (set w day (set (getD w day []) p b)) 0
-      put-in room {b} e =
-          let g = goes-in w day s (test-passed (history-of s) day (next-place (day-of w day)) in-week (sym (read-number s) ∙ ap (λ (a : Answer). a .refusal) (sym is) ∙ accepted) (omega (arith, place, room))) in
-          keeps (entered-is w day place (e ∙ ap (λ (a : Answer). ends-of a) is) ∙ g .0, g .1)
+    -- the place is one of the day
+    pub room : r ≡ 0 → p < places-a-day
+    room z = let x = enters (history-of s) day (next-place (day-of w day)) (sym number-is ∙ z) in omega (arith, place, x .has-room)
+
+    pub put-in : r ≡ 0 → {b : Bracket} → b ≡ ends-of a → Promised w day s (set w day (set (getD w day []) p b)) r
+    put-in z {b} e =
+        let g = goes-in w day s (sym z ∙ number-is) in
+        keeps (entered-is w day place (e ∙ ap (λ (a : Answer). ends-of a) is) ∙ g .0, z ∙ g .1)

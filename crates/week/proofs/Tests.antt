@@ -7,7 +7,7 @@ use lib.Dec.{eqb}
 use borrow.Author.Tests.{eq-eqb, ne-eqb, le-leb, lt-leb, leb-false, eqb-true}
 use Rattle.exact.specs.Numbers.{days-a-week, places-a-day}
 use Rattle.exact.specs.Records.{read}
-use Rattle.exact.specs.Refusals.{History, refusal, refuses-13, refuses-24, entry-refusal}
+use Rattle.exact.specs.Refusals.{History, refusal, refuses-13, refuses-24, test-24, entry-refusal}
 use Rattle.exact.proofs.Accepted.{passed}
 use Rattle.encounter.specs.declared.state.Session.{Session}
 use Rattle.encounter.specs.declared.state.Answer.{Answer}
@@ -23,18 +23,24 @@ module _ (w : History) (day place : ℕ) where
   unfolding entry-refusal refuses-13
   test-13 h = rw (le-leb days-a-week day h)
 
-  module _ (h : day < days-a-week) where
-    pub test-read : (refusal w read ≡ 0 → ⊥) → refusal w read ≡ entry-refusal w day place
-    unfolding entry-refusal refuses-13
-    test-read n = rw (lt-leb days-a-week day h, ne-eqb (refusal w read) 0 n)
+  pub test-rest : day < days-a-week → test-24 (refusal w read) place ≡ entry-refusal w day place
+  unfolding entry-refusal refuses-13
+  test-rest h = rw (lt-leb days-a-week day h)
 
-    pub test-24 : refusal w read ≡ 0 → places-a-day ≤ place → 24 ≡ entry-refusal w day place
-    unfolding entry-refusal refuses-13 refuses-24
-    test-24 z f = rw (lt-leb days-a-week day h, z, le-leb places-a-day place f)
+-- test 24, after the read's
+module _ (earlier place : ℕ) where
+  pub as-read : (earlier ≡ 0 → ⊥) → earlier ≡ test-24 earlier place
+  unfolding test-24
+  as-read n = rw (ne-eqb earlier 0 n)
 
-    pub test-passed : refusal w read ≡ 0 → place < places-a-day → 0 ≡ entry-refusal w day place
-    unfolding entry-refusal refuses-13 refuses-24
-    test-passed z f = rw (lt-leb days-a-week day h, z, lt-leb places-a-day place f)
+  module _ (z : earlier ≡ 0) where
+    pub a-ninth : places-a-day ≤ place → 24 ≡ test-24 earlier place
+    unfolding test-24 refuses-24
+    a-ninth f = rw (eq-eqb earlier 0 z, le-leb places-a-day place f)
+
+    pub has-place : place < places-a-day → 0 ≡ test-24 earlier place
+    unfolding test-24 refuses-24
+    has-place f = rw (eq-eqb earlier 0 z, lt-leb places-a-day place f)
 
 -- what an accepted entry says
 pub record Enters (w : History) (day place : ℕ) : Type 0 where
@@ -47,7 +53,7 @@ unfolding refuses-24
 by-room w day place l z y = record { in-week = l; read-passes = z; has-room = leb-false places-a-day place (passed 23 (refuses-24 place) 0 y .0) }
 
 pub enters : (w : History) (day place : ℕ) → entry-refusal w day place ≡ 0 → Enters w day place
-unfolding entry-refusal refuses-13
+unfolding entry-refusal refuses-13 test-24
 enters w day place z = let (a, y) = passed 12 (refuses-13 day) _ z in go (eqb (refusal w read) 0) refl (leb-false days-a-week day a) y
   where
     go : (b : Bool) → eqb (refusal w read) 0 ≡ b → day < days-a-week → cond b (cond (refuses-24 place) 24 0) (refusal w read) ≡ 0 → Enters w day place

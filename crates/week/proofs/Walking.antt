@@ -15,7 +15,7 @@ use Rattle.exact.specs.Steps.{lower-end, upper-end}
 use Rattle.exact.specs.Private.Ranges.{InRange}
 use Rattle.exact.proofs.Ranges.{nought-range, widen, sum-range}
 use Rattle.encounter.specs.Enclosure.{Every}
-use Rattle.encounter.specs.Sums.{greater}
+use Rattle.encounter.specs.Sums.{greater, sum-in-limits, greater-in-limits}
 use Rattle.encounter.proofs.sums.Limits.{sum-is, greater-is}
 use Rattle.week.specs.declared.Bracket.{Bracket}
 use Rattle.week.specs.declared.Ends.{Ends}
@@ -32,9 +32,9 @@ pub place-empty : (e : Ends) (b : Bracket) → b .held ≡ 0 → e ≡ with-plac
 unfolding with-place
 place-empty e b h = rw (eq-eqb (b .held) 0 h)
 
-pub place-held : (e : Ends) (b : Bracket) → (b .held ≡ 0 → ⊥) → with-bracket e b ≡ with-place e b
+pub place-held : (e : Ends) (b : Bracket) {x y : Scaled} → (b .held ≡ 0 → ⊥) → x ≡ greater-in-limits (e .lower) (b .lower) → y ≡ sum-in-limits true (e .upper) (b .upper) → _≡_ {A = Ends} (record { lower = x; upper = y }) (with-place e b)
 unfolding with-place
-place-held e b h = rw (ne-eqb (b .held) 0 h)
+place-held e b h l u = rw (ne-eqb (b .held) 0 h) (λ i. record { lower = l i; upper = u i })
 
 -- ---- over the places is over the held
 

@@ -1,10 +1,8 @@
 // Request #111 of document 02: a week of seven days of eight places, each empty or with the two ends of a read, and one figure for it.
 ghost use mathlib.Core.Path.{_≡_};
-ghost use Prim.Native.Nat.{_≤_};
-ghost use lib.ListN.{length};
-ghost use Rattle.exact.specs.Numbers.{days-a-week, places-a-day};
+ghost use Rattle.exact.specs.Refusals.{test-24};
 ghost use Rattle.encounter.specs.Calls.{Reached};
-ghost use Rattle.week.specs.Week.{empty-place, ends-of, empty-week, next-place, entered, enter, week-ends};
+ghost use Rattle.week.specs.Week.{empty-place, ends-of, empty-week, next-place, enter, week-ends};
 ghost use Rattle.week.specs.Told.{FromCalls};
 ghost use Rattle.week.specs.Claims.{Claims};
 ghost use Rattle.week.specs.Private.Walk.{with-place, with-day};
@@ -67,7 +65,7 @@ fn ends_of(a: Answer) -> Bracket
 
 // The next empty place of a day, or 8 where it has none.
 fn next_place(day: [Bracket; PLACES_A_DAY]) -> usize
-    ensures { λ r. ⌜ (r ≡ next-place day) × (r ≤ places-a-day) ⌝ }
+    ensures { λ r. ⌜ r ≡ next-place day ⌝ }
 {
     let mut p: usize = 0;
     while p < PLACES_A_DAY {
@@ -79,7 +77,20 @@ fn next_place(day: [Bracket; PLACES_A_DAY]) -> usize
     p
 }
 
-// The week with the two ends of a read of the session in the next empty place of the day. The refusal is 0, or else the week is as it was: refused as 13, then as the
+// The read's refusal, then test 24: the number of the first that refuses, or 0.
+fn test_entry(read: u32, place: usize) -> u32
+    ensures { λ r. ⌜ r ≡ test-24 read place ⌝ }
+{
+    if read != 0 {
+        return read;
+    }
+    if PLACES_A_DAY <= place {
+        return 24;
+    }
+    0
+}
+
+// The week with the two ends of a read of the session in the next empty place of the day. The refusal is then 0; else the week is as it was: refused as 13, then as the
 // read is, as 21 or 23, then as 24.
 pub fn enter(
     week: [[Bracket; PLACES_A_DAY]; DAYS_A_WEEK],
@@ -96,16 +107,12 @@ pub fn enter(
         return week;
     }
     let a = read(s);
-    if a.refusal != 0 {
-        *refusal = a.refusal;
-        return week;
-    }
     let p = next_place(week[d]);
-    if p == PLACES_A_DAY {
-        *refusal = 24;
+    let r = test_entry(a.refusal, p);
+    *refusal = r;
+    if r != 0 {
         return week;
     }
-    *refusal = 0;
     let mut w = week;
     w[d][p] = ends_of(a);
     w

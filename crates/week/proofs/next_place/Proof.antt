@@ -28,7 +28,7 @@ element-copy-out-if1 c = omega arith
 returns : tie.Need-returns Inv-loop μ-loop
 returns c =
     let l = c .before .before .loop in
-    (omega (arith, l .inv .2, next-empty (c .before .before .before .args .t1) (l .p) _ (omega arith) (c .if1 .taken)), l .inv .0)
+    omega (arith, l .inv .2, next-empty (c .before .before .before .args .t1) (l .p) _ (omega arith) (c .if1 .taken))
 
 add-p : tie.Need-add-p Inv-loop μ-loop
 add-p c = omega arith
@@ -45,7 +45,7 @@ returns-2 : tie.Need-returns-2 Inv-loop μ-loop
 returns-2 c =
     let l = c .before .loop in
     let day = c .before .before .args .t1 in
-    (omega (arith, l .inv .2, ap next-place (drop-of-length-le day {i = l .p} (omega arith)), next-none), l .inv .0)
+    omega (arith, l .inv .2, ap next-place (drop-of-length-le day {i = l .p} (omega arith)), next-none)
 
 pub next-place-spec : {M : Type 1} → statement M
 next-place-spec =

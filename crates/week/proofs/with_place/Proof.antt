@@ -1,4 +1,3 @@
-use mathlib.Core.Path.{_≡_, _∙_}
 use borrow.Author.Needs.{needs}
 use Rattle.week.proofs.Walking.{place-empty, place-held}
 use Rattle.week.proofs.with_place.Statement.{statement}
@@ -16,7 +15,7 @@ sum-requires c κs = search needs
 returns-2 : tie.Need-returns-2
 returns-2 c =
     let z = c .before .before .before .before in
-    rw (c .before .greater .ensures, c .sum .ensures) (place-held (z .args .ends) (z .args .b) (c .before .before .if1 .left))
+    place-held (z .args .ends) (z .args .b) (c .before .before .if1 .left) (c .before .greater .ensures) (c .sum .ensures)
 
 pub with-place-spec : {M : Type 1} → statement M
 with-place-spec = tie.close (tie.spec returns greater-requires sum-requires returns-2)
