@@ -1,19 +1,20 @@
 -- The claims.
 use mathlib.Core.Path.{_≡_, refl, sym, ap, _∙_}
-use mathlib.Core.List.{List, [], _∷_, map, flatten}
-use Rattle.exact.specs.Fraction.{Frac, _≼_}
+use mathlib.Core.List.{List, [], _∷_, map, flatten, cons-ne-nil}
+use Rattle.exact.specs.Fraction.{Frac}
 use Rattle.exact.specs.Scaled.{nought, value}
 use Rattle.exact.specs.Steps.{lower-end, upper-end}
 use Rattle.encounter.specs.Enclosure.{Every}
+use Rattle.week.specs.declared.Bracket.{Bracket}
 use Rattle.week.specs.Week.{Week, empty-week, held-in, held, greatest-of, added-up, week-ends}
-use Rattle.week.specs.Told.{Read, Told, place-of, Came}
-use Rattle.week.specs.Figure.{Quotients, greatest, total, OneFigure}
-use Rattle.week.specs.Claims.{IsGreatest, Claims}
+use Rattle.week.specs.Told.{Read, Told, place-of, week-with, Came}
+use Rattle.week.specs.Figure.{Quotients, IsGreatest, LiesBetween, OneFigure}
+use Rattle.week.specs.Claims.{Claims}
 use Rattle.week.proofs.Folding.{every-also, every-flat}
 use Rattle.week.proofs.Holding.{week-holds}
 use Rattle.week.proofs.Quotients.{Encloses, lower-is-below, upper-is-above}
-use Rattle.week.proofs.Telling.{Good, Sound, sound}
-use Rattle.week.proofs.Greatest.{is-greatest}
+use Rattle.week.proofs.Telling.{Good, sound}
+use Rattle.week.proofs.Greatest.{greatest-is, is-greatest}
 use Rattle.week.proofs.Listed.{entry-demands}
 
 lowers : (rs : List Read) → map (λ b. b .lower) (map place-of rs) ≡ map (λ r. lower-end (r .encounter) (r .order)) rs
@@ -26,18 +27,28 @@ unfolding place-of
 uppers [] = refl
 uppers (r ∷ rs) = ap (λ l. upper-end (r .encounter) (r .order) ∷ l) (uppers rs)
 
-figure : {w : Week} {t : Told} → Came w t → OneFigure w t
+between : {w : Week} (t : Told) → w ≡ week-with t → Every Encloses (flatten t) → (qs : List Frac) → Quotients (flatten t) qs → LiesBetween w qs
 unfolding week-ends
-figure {w} {t} c = record {
-  holds = o .is;
-  between = λ qs k. rw (o .is, week-holds t, lowers (flatten t), uppers (flatten t)) (lower-is-below (flatten t) qs f k, upper-is-above (flatten t) qs f k);
-}
-  where
-    o : Sound w t
-    o = sound c
+between t is f [] c = record { greatest = λ some. absurd (some refl); sum = rw (is, week-holds t, uppers (flatten t)) (upper-is-above (flatten t) [] f c) }
+between t is f (q ∷ qs) c =
+    let g = greatest-is (λ (p : Frac). p) q qs in
+    record {
+      greatest = λ some. (_, g, rw (is, week-holds t, lowers (flatten t)) (lower-is-below _ (flatten t) (q ∷ qs) f c (g .none-above)));
+      sum = rw (is, week-holds t, uppers (flatten t)) (upper-is-above (flatten t) (q ∷ qs) f c);
+    }
 
-    f : Every Encloses (flatten t)
-    f = every-also Good Encloses (λ r g. g .enclosing) (flatten t) (every-flat Good t (o .good))
+figure : {w : Week} {t : Told} → Came w t → OneFigure w t
+figure {w} {t} c =
+    let o = sound c in
+    record { holds = o .is; between = between t (o .is) (every-also Good Encloses (λ r g. g .enclosing) (flatten t) (every-flat Good t (o .good))) }
+
+lower-is-greatest : (w : Week) → (held w ≡ [] → ⊥) → IsGreatest value (map (λ b. b .lower) (held w)) (week-ends w .lower)
+unfolding week-ends
+lower-is-greatest w some = is-greatest (map (λ b. b .lower) (held w)) (not-empty (held w) some)
+  where
+    not-empty : (l : List Bracket) → (l ≡ [] → ⊥) → map (λ b. b .lower) l ≡ [] → ⊥
+    not-empty [] some e = some refl
+    not-empty (b ∷ l) some e = cons-ne-nil _ _ e
 
 no-figure : (w : Week) → held w ≡ [] → week-ends w ≡ record { lower = nought; upper = nought }
 unfolding week-ends greatest-of added-up
@@ -48,4 +59,4 @@ unfolding held held-in flatten
 empty-holds = refl
 
 pub claims : Claims
-claims = record { figure = figure; lower-greatest = λ w. unfold week-ends in is-greatest _; nothing-held = no-figure; empty = empty-holds; entries = entry-demands }
+claims = record { figure = figure; lower-greatest = lower-is-greatest; nothing-held = no-figure; empty = empty-holds; entries = entry-demands }

@@ -19,8 +19,8 @@ use Rattle.encounter.specs.Enclosure.{Every}
 use Rattle.encounter.specs.Sums.{greater}
 use Rattle.week.specs.Week.{greatest-of, added-up}
 use Rattle.week.specs.Told.{Read}
-use Rattle.week.specs.Figure.{Quotients, none, more, greatest, total}
-use Rattle.week.proofs.Folding.{every-also, every-map}
+use Rattle.week.specs.Figure.{Quotients, none, more, total}
+use Rattle.week.proofs.Folding.{every-map}
 
 -- both ends of a read enclose every later quotient
 pub record Encloses (r : Read) : Type 0 where
@@ -29,32 +29,10 @@ pub record Encloses (r : Read) : Type 0 where
 
 -- ---- the greatest
 
-pub other-way : (p q : Frac) → at-most p q ≡ false → q ≼ p
-other-way p q e = ⊎-elim (λ l. ≼-of-≺ l) (λ l. absurd (true≢false (sym (at-most-yes p q l) ∙ e))) (≺-or-≼ q p)
-
-head-below : (q : Frac) (qs : List Frac) → q ≼ greatest (q ∷ qs)
-unfolding greatest
-head-below q qs = go (at-most q (greatest qs)) refl
-  where
-    go : (b : Bool) → at-most q (greatest qs) ≡ b → q ≼ cond b (greatest qs) q
-    go true e = at-most-holds q (greatest qs) e
-    go false e = ≼-refl q
-
-rest-below : (q : Frac) (qs : List Frac) → greatest qs ≼ greatest (q ∷ qs)
-unfolding greatest
-rest-below q qs = go (at-most q (greatest qs)) refl
-  where
-    go : (b : Bool) → at-most q (greatest qs) ≡ b → greatest qs ≼ cond b (greatest qs) q
-    go true e = ≼-refl (greatest qs)
-    go false e = other-way q (greatest qs) e
-
-lower-below : (rs : List Read) {qs : List Frac} → Every Encloses rs → Quotients rs qs → Every (λ r. value (lower-end (r .encounter) (r .order)) ≼ greatest qs) rs
-lower-below [] f none = tt
-lower-below (r ∷ rs) f (more {qs = qs} N′ K n k c) =
-    let q = quotient (r .encounter) N′ K in (
-      ≼-trans (f .0 .between N′ K n k .0) (head-below q qs),
-      every-also _ _ (λ r h. ≼-trans h (rest-below q qs)) rs (lower-below rs (f .1) c),
-    )
+-- a bound of every quotient is one of every lower end
+lower-below : (p : Frac) (rs : List Read) {qs : List Frac} → Every Encloses rs → Quotients rs qs → Every (λ q. q ≼ p) qs → Every (λ r. value (lower-end (r .encounter) (r .order)) ≼ p) rs
+lower-below p [] f none e = tt
+lower-below p (r ∷ rs) f (more N′ K n k c) e = (≼-trans (f .0 .between N′ K n k .0) (e .0), lower-below p rs (f .1) c (e .1))
 
 -- a bound of every number is one of the greatest
 greatest-below : (p : Frac) (x : Scaled) (l : List Scaled) → value x ≼ p → Every (λ y. value y ≼ p) l → value (foldl greater x l) ≼ p
@@ -70,11 +48,11 @@ pub nought-least : (p : Frac) → value nought ≼ p
 unfolding value
 nought-least p = ≼-trans (record { le = omega arith }) (zero-least p)
 
-pub lower-is-below : (rs : List Read) (qs : List Frac) → Every Encloses rs → Quotients rs qs → value (greatest-of (map (λ r. lower-end (r .encounter) (r .order)) rs)) ≼ greatest qs
+pub lower-is-below : (p : Frac) (rs : List Read) (qs : List Frac) → Every Encloses rs → Quotients rs qs → Every (λ q. q ≼ p) qs → value (greatest-of (map (λ r. lower-end (r .encounter) (r .order)) rs)) ≼ p
 unfolding greatest-of
-lower-is-below rs qs f c =
+lower-is-below p rs qs f c e =
     let end : Read → Scaled = λ r. lower-end (r .encounter) (r .order) in
-    greatest-below (greatest qs) nought (map end rs) (nought-least (greatest qs)) (every-map (λ y. value y ≼ greatest qs) end rs (lower-below rs f c))
+    greatest-below p nought (map end rs) (nought-least p) (every-map (λ y. value y ≼ p) end rs (lower-below p rs f c e))
 
 -- ---- the sum
 
