@@ -94,3 +94,8 @@ call c s = outcome (history-of s) (asked c) s
 pub data Reached : Session → Type 0 where
   from-empty : Reached empty
   after : {s : Session} → Reached s → (c : Call) → Reached (call c s .session)
+
+-- the history that the requests tell of a session from these calls
+abbrev pub told-of : {s : Session} → Reached s → History
+told-of from-empty = no-encounter
+told-of (after r c) = follow (told-of r) (asked c)

@@ -1,8 +1,8 @@
-// The sum of two scaled numbers and the greater of them: what crate `week` (request #111 of document 02) has in common with the steps.
+// The sum of two scaled numbers and the greater of them, by the private arithmetic, for any numbers: for crate `week` (request #111 of document 02).
 ghost use mathlib.Core.Path.{_≡_};
 ghost use mathlib.Core.Bool.{_&&_};
 ghost use Prim.Native.Nat.{_^_};
-ghost use lib.Dec.{ltb, eqb};
+ghost use lib.Dec.{ltb};
 ghost use lib.IntN.{natAbs};
 ghost use Rattle.encounter.specs.Sums.{in-limits, sum-in-limits, greater-in-limits};
 use crate::arithmetic::scaled;
@@ -19,12 +19,6 @@ fn far(e: i32) -> bool
     268435456 < e
 }
 
-fn is_zero(e: i32) -> bool
-    ensures { λ r. ⌜ r ≡ eqb (natAbs e) 0 ⌝ }
-{
-    e == 0
-}
-
 // Whether x is a scaled number with e from -2^28 to 2^28.
 fn in_limits(x: Scaled) -> bool
     ensures { λ r. ⌜ r ≡ in-limits x ⌝ }
@@ -35,7 +29,7 @@ fn in_limits(x: Scaled) -> bool
         return false;
     }
     if m == 0 {
-        return is_zero(e);
+        return e == 0;
     }
     2147483648 <= m
 }

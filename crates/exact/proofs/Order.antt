@@ -16,7 +16,7 @@ use Rattle.exact.specs.Fraction.{Frac, _≼_, _≈_, _⊕_, _⊗_, _÷_,
 use Rattle.exact.specs.Scaled.{scaled, nought, value, Normal, IsScaled, with-exponent, half, double}
 use Rattle.exact.proofs.Integers.{bal-add, bal-diff}
 use Rattle.exact.specs.Private.Round.{round}
-use Rattle.exact.proofs.Fractions.{_≺_, lt-or-le, ≈-refl, ≈-sym, add-cong, ≼-trans, ≼-≺, ≺-≼, ≼-of, ≽-of, ≺-or-≼}
+use Rattle.exact.proofs.Fractions.{_≺_, lt-or-le, ≈-refl, ≈-sym, add-cong, ≼-trans, ≼-≺, ≺-≼, ≼-of-≺, ≼-of, ≽-of, ≺-or-≼}
 use Rattle.exact.proofs.Rounding.{round-is, round-cong}
 
 -- ---- the test and the order
@@ -40,6 +40,9 @@ not-above p q h = at-most-holds p q (go (at-most p q) h)
 pub at-most-no : (p q : Frac) → q ≺ p → at-most p q ≡ false
 unfolding at-most
 at-most-no p q h = lt-leb _ _ (h .lt)
+
+pub at-most-otherwise : (p q : Frac) → at-most p q ≡ false → q ≼ p
+at-most-otherwise p q e = ⊎-elim (λ l. ≼-of-≺ l) (λ l. absurd (true≢false (sym (at-most-yes p q l) ∙ e))) (≺-or-≼ q p)
 
 pub above-yes : (p q : Frac) → q ≺ p → above p q ≡ true
 unfolding above

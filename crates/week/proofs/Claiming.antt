@@ -1,8 +1,11 @@
 -- The claims.
 use mathlib.Core.Path.{_≡_, refl, sym, ap, _∙_}
-use mathlib.Core.List.{List, [], _∷_, map, flatten, cons-ne-nil}
+use mathlib.Core.Bool.{true}
+use mathlib.Core.List.{List, [], _∷_, map, flatten, map-map, cons-ne-nil}
 use Rattle.exact.specs.Fraction.{Frac}
 use Rattle.exact.specs.Scaled.{nought, value}
+use lib.Dec.{lit<}
+use Rattle.exact.proofs.Operations.{sum-none, sum-comm}
 use Rattle.exact.specs.Steps.{lower-end, upper-end}
 use Rattle.encounter.specs.Enclosure.{Every}
 use Rattle.week.specs.declared.Bracket.{Bracket}
@@ -19,13 +22,11 @@ use Rattle.week.proofs.Listed.{entry-demands}
 
 lowers : (rs : List Read) → map (λ b. b .lower) (map place-of rs) ≡ map (λ r. lower-end (r .encounter) (r .order)) rs
 unfolding place-of
-lowers [] = refl
-lowers (r ∷ rs) = ap (λ l. lower-end (r .encounter) (r .order) ∷ l) (lowers rs)
+lowers rs = map-map (λ (b : Bracket). b .lower) place-of rs
 
 uppers : (rs : List Read) → map (λ b. b .upper) (map place-of rs) ≡ map (λ r. upper-end (r .encounter) (r .order)) rs
 unfolding place-of
-uppers [] = refl
-uppers (r ∷ rs) = ap (λ l. upper-end (r .encounter) (r .order) ∷ l) (uppers rs)
+uppers rs = map-map (λ (b : Bracket). b .upper) place-of rs
 
 between : {w : Week} (t : Told) → w ≡ week-with t → Every Encloses (flatten t) → (qs : List Frac) → Quotients (flatten t) qs → LiesBetween w qs
 unfolding week-ends
@@ -40,7 +41,7 @@ between t is f (q ∷ qs) c =
 figure : {w : Week} {t : Told} → Came w t → OneFigure w t
 figure {w} {t} c =
     let o = sound c in
-    record { holds = o .is; between = between t (o .is) (every-also Good Encloses (λ r g. g .enclosing) (flatten t) (every-flat Good t (o .good))) }
+    record { holds = o .is; held-are = rw (o .is) (week-holds t); between = between t (o .is) (every-also Good Encloses (λ r g. g .enclosing) (flatten t) (every-flat Good t (o .good))) }
 
 lower-is-greatest : (w : Week) → (held w ≡ [] → ⊥) → IsGreatest value (map (λ b. b .lower) (held w)) (week-ends w .lower)
 unfolding week-ends
@@ -59,4 +60,4 @@ unfolding held held-in flatten
 empty-holds = refl
 
 pub claims : Claims
-claims = record { figure = figure; lower-greatest = lower-is-greatest; nothing-held = no-figure; empty = empty-holds; entries = entry-demands }
+claims = record { figure = figure; lower-greatest = lower-is-greatest; nothing-held = no-figure; empty = empty-holds; first-sum = λ {x} h. sum-comm true 32 nought x (lit< tt) ∙ sum-none true 32 x nought (lit< tt) h refl; entries = entry-demands }

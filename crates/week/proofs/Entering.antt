@@ -8,7 +8,7 @@ use Rattle.exact.specs.Numbers.{days-a-week, places-a-day}
 use Rattle.exact.specs.Refusals.{test-24, entry-refusal}
 use Rattle.encounter.specs.declared.state.Session.{Session}
 use Rattle.encounter.specs.declared.state.Answer.{Answer}
-use Rattle.encounter.specs.Calls.{history-of, reads, call, Reached}
+use Rattle.encounter.specs.Calls.{history-of, reads, call, Reached, told-of}
 use Rattle.week.specs.declared.Bracket.{Bracket}
 use Rattle.week.specs.Week.{Week, day-of, next-place, ends-of, entered, enter}
 use Rattle.week.specs.Told.{FromCalls, tell, after}
@@ -24,7 +24,7 @@ entered-is w day e g = λ i. set w day (set (getD w day []) (e i) (g i))
 
 module _ {w : Week} {s : Session} (f : FromCalls w) (reached : Reached s) (day : ℕ) where
   keeps : {v : Week} {r : ℕ} → (v ≡ enter w day s .week) × (r ≡ enter w day s .refusal) → Promised w day s v r
-  keeps (e, g) = (e, g, subst FromCalls (sym e) (record { told = tell (f .told) day (history-of s); came = after (f .came) day reached }))
+  keeps (e, g) = (e, g, subst FromCalls (sym e) (record { told = tell (f .told) day (told-of reached); came = after (f .came) day reached }))
 
   pub refused-13 : days-a-week ≤ day → Promised w day s w 13
   refused-13 l = keeps (stays w day s (test-13 (history-of s) day (next-place (day-of w day)) l) (λ z. omega (arith, z)))

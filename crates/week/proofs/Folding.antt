@@ -1,6 +1,6 @@
 -- Laws of lists: of a property of every element, and of a loop that folds.
 use mathlib.Core.Path.{_≡_, refl, sym, ap, _∙_}
-use mathlib.Core.List.{List, [], _∷_, _++_, foldl, foldl-append, map, flatten}
+use mathlib.Core.List.{List, [], _∷_, _++_, foldl, foldl-append, map, map-append, flatten}
 use Prim.Native.Nat.{ℕ, zero, suc, _+_, _*_, _≤_, _<_}
 use native.Mathlib.Numerals.{add-one}
 use native.Mathlib.Omega.{arith}
@@ -62,11 +62,7 @@ flat-length k (l ∷ t) e = omega (arith, length-append l (flatten t), flat-leng
 pub map-flat : {A B : Type 0} (f : A → B) (t : List (List A)) → map f (flatten t) ≡ flatten (map (map f) t)
 unfolding flatten
 map-flat f [] = refl
-map-flat {B = B} f (l ∷ t) = map-over f l (flatten t) ∙ ap (λ (r : List B). map f l ++ r) (map-flat f t)
-  where
-    map-over : {A B : Type 0} (f : A → B) (k l : List A) → map f (k ++ l) ≡ map f k ++ map f l
-    map-over f [] l = refl
-    map-over {B = B} f (x ∷ k) l = ap (λ (r : List B). f x ∷ r) (map-over f k l)
+map-flat {B = B} f (l ∷ t) = map-append f l (flatten t) ∙ ap (λ (r : List B). map f l ++ r) (map-flat f t)
 
 pub map-set : {A B : Type 0} (f : A → B) (l : List A) (i : ℕ) (a : A) → map f (set l i a) ≡ set (map f l) i (f a)
 map-set f [] i a = refl

@@ -1,21 +1,18 @@
 -- The greatest of a list, found by going through it.
-use mathlib.Core.Path.{_≡_, refl, sym, _∙_}
-use mathlib.Core.Bool.{Bool, true, false, cond, true≢false}
-use mathlib.Core.List.{List, [], _∷_, foldl}
-use mathlib.Core.Logic.{inl, inr, _⊎_, ⊎-elim}
+use mathlib.Core.Path.{_≡_, refl}
+use mathlib.Core.Bool.{Bool, true, false, cond}
+use mathlib.Core.List.{List, [], _∷_, foldl, List·Memᴰ, List·Memᴰ·head, List·Memᴰ·tail, List·Memᴰ·cases-cons}
+use mathlib.Core.Logic.{inl, inr, _⊎_}
 use Rattle.exact.specs.declared.Scaled.{Scaled}
 use Rattle.exact.specs.Fraction.{Frac, _≼_, at-most}
 use Rattle.exact.specs.Scaled.{nought, value}
-use Rattle.exact.proofs.Fractions.{≼-refl, ≼-trans, ≺-or-≼, ≼-of-≺}
-use Rattle.exact.proofs.Order.{at-most-yes, at-most-holds}
+use Rattle.exact.proofs.Fractions.{≼-refl, ≼-trans}
+use Rattle.exact.proofs.Order.{at-most-yes, at-most-holds, at-most-otherwise}
 use Rattle.encounter.specs.Enclosure.{Every}
 use Rattle.encounter.specs.Sums.{greater}
 use Rattle.week.specs.Week.{greatest-of}
-use Rattle.week.specs.Figure.{OneOf, IsGreatest}
+use Rattle.week.specs.Figure.{IsGreatest}
 use Rattle.week.proofs.Quotients.{nought-least}
-
-other-way : (p q : Frac) → at-most p q ≡ false → q ≼ p
-other-way p q e = ⊎-elim (λ l. ≼-of-≺ l) (λ l. absurd (true≢false (sym (at-most-yes p q l) ∙ e))) (≺-or-≼ q p)
 
 module _ {A : Type 0} (worth : A → Frac) where
   -- the greater of two
@@ -34,7 +31,7 @@ module _ {A : Type 0} (worth : A → Frac) where
     where
       go : (b : Bool) → at-most (worth x) (worth y) ≡ b → worth y ≼ worth (cond b y x)
       go true e = ≼-refl (worth y)
-      go false e = other-way (worth x) (worth y) e
+      go false e = at-most-otherwise (worth x) (worth y) e
 
   start-below : (x : A) (l : List A) → worth x ≼ worth (foldl larger x l)
   start-below x [] = ≼-refl (worth x)
@@ -44,14 +41,14 @@ module _ {A : Type 0} (worth : A → Frac) where
   all-below x [] = tt
   all-below x (y ∷ l) = (≼-trans (second-below x y) (start-below (larger x y) l), all-below (larger x y) l)
 
-  found : (x : A) (l : List A) → OneOf (foldl larger x l) (x ∷ l)
-  found x [] = inl refl
-  found x (y ∷ l) = by (at-most (worth x) (worth y)) (found (larger x y) l)
+  found : (x : A) (l : List A) → List·Memᴰ (foldl larger x l) (x ∷ l)
+  found x [] = List·Memᴰ·head refl
+  found x (y ∷ l) = by (at-most (worth x) (worth y)) (List·Memᴰ·cases-cons (found (larger x y) l))
     where
-      by : {z : A} (b : Bool) → (z ≡ cond b y x) ⊎ OneOf z l → (z ≡ x) ⊎ ((z ≡ y) ⊎ OneOf z l)
-      by b (inr o) = inr (inr o)
-      by true (inl e) = inr (inl e)
-      by false (inl e) = inl e
+      by : {z : A} (b : Bool) → (z ≡ cond b y x) ⊎ List·Memᴰ z l → List·Memᴰ z (x ∷ y ∷ l)
+      by b (inr o) = List·Memᴰ·tail (List·Memᴰ·tail o)
+      by true (inl e) = List·Memᴰ·tail (List·Memᴰ·head e)
+      by false (inl e) = List·Memᴰ·head e
 
   pub greatest-is : (x : A) (l : List A) → IsGreatest worth (x ∷ l) (foldl larger x l)
   greatest-is x l = record { one-of-them = found x l; none-above = (start-below x l, all-below x l) }

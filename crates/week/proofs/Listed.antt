@@ -10,14 +10,10 @@ use Rattle.encounter.specs.declared.state.Session.{Session}
 use Rattle.encounter.specs.Session.{empty}
 use Rattle.encounter.specs.Calls.{follow, session-of, history-of, Call, reads, asked, call}
 use Rattle.encounter.specs.Enclosure.{place, Claim}
-use Rattle.encounter.proofs.calls.Invariant.{Whole, nothing, session-is, history-is, keeps, claim}
+use Rattle.encounter.proofs.calls.Invariant.{Whole, session-is, history-is, whole-told, claim}
 use Rattle.week.specs.Week.{Week, day-of, next-place, ends-of, entered, enter}
-use Rattle.week.specs.Lists.{left-by, told-by, EntersAsRead, EntryDemands}
+use Rattle.week.specs.Lists.{EntersAsRead, EntryDemands}
 use Rattle.week.proofs.Tests.{enters, stays, goes-in, read-number}
-
-whole-from : {s : Session} {w : History} → Whole s w → (cs : List Call) → Whole (foldl (λ s c. call c s .session) s cs) (foldl (λ w c. follow w (asked c)) w cs)
-whole-from h [] = h
-whole-from h (c ∷ cs) = whole-from (keeps h c) cs
 
 enters-as-read : {s : Session} {h : History} → Whole s h → (w : Week) (day : ℕ) → EntersAsRead (place s h reads) w day (enter w day s)
 unfolding enter
@@ -43,4 +39,4 @@ session-stays {h = h} o = claim o reads .session ∙ ap session-of (history-stay
 
 pub entry-demands : EntryDemands
 unfolding EntryDemands
-entry-demands cs w day = let o = whole-from nothing cs in (enters-as-read o w day, session-stays o)
+entry-demands s r w day = let o = whole-told r in (enters-as-read o w day, session-stays o)

@@ -1,11 +1,11 @@
 -- A day's next empty place, and a day of which the reads are told: their ends, then empty places.
 use mathlib.Core.Path.{_≡_, refl, sym, ap, _∙_, subst}
 use mathlib.Core.Bool.{true, false, cond}
-use mathlib.Core.List.{List, [], _∷_, _++_, map, append-assoc}
+use mathlib.Core.List.{List, [], _∷_, _++_, map, map-append, append-assoc}
 use Prim.Native.Nat.{ℕ, zero, suc, _+_, _-_, _≤_, _<_}
 use native.Mathlib.Omega.{arith}
 use borrow.Author.Tests.{eq-eqb, ne-eqb}
-use lib.ListN.{length, getD, set, take, drop, replicate, length-append, length-replicate}
+use lib.ListN.{length, length-map, getD, set, take, drop, replicate, length-append, length-replicate}
 use lib.Seq.{drop-cons, set-append-seam}
 use Rattle.exact.specs.Numbers.{places-a-day}
 use Rattle.week.specs.declared.Bracket.{Bracket}
@@ -44,18 +44,10 @@ pub next-is : (rs : List Read) → next-place (day-with rs) ≡ length rs
 unfolding day-with
 next-is rs = filled rs (places-a-day - length rs)
 
-length-map : (rs : List Read) → length (map place-of rs) ≡ length rs
-length-map [] = refl
-length-map (r ∷ rs) = ap suc (length-map rs)
-
-map-snoc : (rs : List Read) (r : Read) → map place-of (rs ++ r ∷ []) ≡ map place-of rs ++ place-of r ∷ []
-map-snoc [] r = refl
-map-snoc (x ∷ rs) r = ap (λ (l : Day). place-of x ∷ l) (map-snoc rs r)
-
 -- the next read's ends go into the next place
 one-more : (rs : List Read) (r : Read) (k j : ℕ) → k ≡ suc j → set (map place-of rs ++ replicate k empty-place) (length rs) (place-of r) ≡ map place-of (rs ++ r ∷ []) ++ replicate j empty-place
 one-more rs r k j e =
-    rw (e, ← length-map rs, map-snoc rs r)
+    rw (e, ← length-map rs place-of, map-append place-of rs (r ∷ []))
     (set-append-seam (map place-of rs) empty-place (replicate j empty-place) (place-of r) ∙ sym (append-assoc (map place-of rs) (place-of r ∷ []) (replicate j empty-place)))
 
 pub put-next : (rs : List Read) (r : Read) → length rs < places-a-day → set (day-with rs) (next-place (day-with rs)) (place-of r) ≡ day-with (rs ++ r ∷ [])

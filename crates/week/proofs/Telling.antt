@@ -21,15 +21,15 @@ use Rattle.encounter.specs.declared.state.Answer.{Answer}
 use Rattle.encounter.specs.Session.{conjunction-of, bracket}
 use Rattle.encounter.specs.Calls.{history-of, reads, call, Reached}
 use Rattle.encounter.specs.Enclosure.{Every}
-use Rattle.encounter.proofs.calls.AcceptedReads.{ReadOf, read-of}
-use Rattle.encounter.proofs.calls.Invariant.{begun, encloses}
+use Rattle.encounter.proofs.calls.AcceptedReads.{ReadOf, accepted-read}
+use Rattle.encounter.proofs.calls.Invariant.{history-is, whole-told, begun, encloses}
 use Rattle.encounter.proofs.calls.Reading.{lower-end-fine, upper-end-fine}
 use Rattle.week.specs.declared.Bracket.{Bracket}
 use Rattle.week.specs.Week.{Week, empty-week, day-of, next-place, ends-of, entered, enter}
 use Rattle.week.specs.Told.{Read, Told, nothing-told, reads-of, tell, place-of, day-with, week-with, Came, from-empty, after}
 use Rattle.week.proofs.Folding.{every-same, every-set, every-get, every-append, map-set, get-map}
 use Rattle.week.proofs.Places.{next-is, put-next}
-use Rattle.week.proofs.Tests.{test-13, Enters, enters, stays, goes-in, read-number}
+use Rattle.week.proofs.Tests.{test-13, Enters, enters, stays, goes-in}
 use Rattle.week.proofs.Quotients.{Encloses}
 
 -- a read that was accepted: its ends enclose, and their exponents are not far
@@ -48,9 +48,6 @@ pub record Sound (w : Week) (t : Told) : Type 0 where
 
 abbrev read-at : Session → Read
 read-at s = record { encounter = s .encounter; order = s .N }
-
-accepted-read : {s : Session} → Reached s → refusal (history-of s) read ≡ 0 → ReadOf s
-accepted-read {s} r z = read-of (record { reached = r; accepted = read-number s ∙ z })
 
 good-read : {s : Session} → Reached s → ReadOf s → Good (read-at s)
 good-read {s} r f =
@@ -135,4 +132,5 @@ nothing-sound = record {
 
 pub sound : {w : Week} {t : Told} → Came w t → Sound w t
 sound from-empty = nothing-sound
-sound (after c day r) = step (sound c) day r
+sound (after {w} {t} c day {s} r) =
+    subst (λ (h : History). Sound (enter w day s .week) (tell t day h)) (history-is (whole-told r)) (step (sound c) day r)

@@ -63,7 +63,7 @@ greater-in {B} {x} {y} h k = go (at-most (value x) (value y))
     go true = k
     go false = h
 
--- n more brackets, after k: each addition moves an exponent by two at most
+-- the brackets of rs, after k others: each addition moves an exponent by two at most
 gathered :
     (x y : Scaled) (k : ℕ) (rs : List Read) →
     InRange 32 (2 ^ 27) x →

@@ -1,4 +1,4 @@
--- Request #111 of document 02: what a week holds, told from the entries alone; and the premise of a call on a week.
+-- Request #111 of document 02: what a week holds, told from its entries and from the calls on their sessions alone; and the premise of a call on a week.
 use mathlib.Core.Bool.{cond}
 use mathlib.Core.List.{List, [], _∷_, _++_, map}
 use Prim.Native.Nat.{ℕ, _-_}
@@ -9,7 +9,7 @@ use Rattle.exact.specs.Numbers.{days-a-week, places-a-day}
 use Rattle.exact.specs.Steps.{lower-end, upper-end}
 use Rattle.exact.specs.Refusals.{History, no-encounter, encounter-at, entry-refusal}
 use Rattle.encounter.specs.declared.state.Session.{Session}
-use Rattle.encounter.specs.Calls.{history-of, Reached}
+use Rattle.encounter.specs.Calls.{Reached, told-of}
 use Rattle.week.specs.declared.Bracket.{Bracket}
 use Rattle.week.specs.Week.{empty-place, Day, Week, empty-week, enter}
 
@@ -28,7 +28,7 @@ nothing-told = replicate days-a-week []
 abbrev pub reads-of : Told → (day : ℕ) → List Read
 reads-of t day = getD t day []
 
--- after an entry of a session whose history is w: a refused one tells nothing (with no encounter it is refused as 13 or 21)
+-- after an entry of a session of which the requests tell the history: a refused one tells nothing (with no encounter it is refused as 13 or 21)
 unfoldable pub tell : Told → (day : ℕ) → History → Told
 tell t day no-encounter = t
 tell t day (encounter-at C N) =
@@ -48,7 +48,7 @@ week-with t = map day-with t
 -- a week that came from these calls, and what its entries tell
 pub data Came : Week → Told → Type 0 where
   from-empty : Came empty-week nothing-told
-  after : {w : Week} {t : Told} → Came w t → (day : ℕ) → {s : Session} → Reached s → Came (enter w day s .week) (tell t day (history-of s))
+  after : {w : Week} {t : Told} → Came w t → (day : ℕ) → {s : Session} → (r : Reached s) → Came (enter w day s .week) (tell t day (told-of r))
 
 -- "That a week came from these calls is a premise too." The sessions came from theirs
 pub record FromCalls (w : Week) : Type 0 where

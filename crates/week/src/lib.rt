@@ -78,11 +78,11 @@ fn next_place(day: [Bracket; PLACES_A_DAY]) -> usize
 }
 
 // The read's refusal, then test 24: the number of the first that refuses, or 0.
-fn test_entry(read: u32, place: usize) -> u32
-    ensures { λ r. ⌜ r ≡ test-24 read place ⌝ }
+fn test_entry(earlier: u32, place: usize) -> u32
+    ensures { λ r. ⌜ r ≡ test-24 earlier place ⌝ }
 {
-    if read != 0 {
-        return read;
+    if earlier != 0 {
+        return earlier;
     }
     if PLACES_A_DAY <= place {
         return 24;

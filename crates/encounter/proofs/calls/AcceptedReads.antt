@@ -9,7 +9,7 @@ use Rattle.exact.proofs.Accepted.{passed}
 use Rattle.encounter.specs.declared.state.Session.{Session}
 use Rattle.encounter.specs.declared.state.Called.{Called}
 use Rattle.encounter.specs.Session.{state, conjunction-of, bracket}
-use Rattle.encounter.specs.Calls.{outcome, reads, call}
+use Rattle.encounter.specs.Calls.{history-of, outcome, reads, call, Reached}
 use Rattle.encounter.specs.Claims.{Readable}
 use Rattle.encounter.proofs.calls.Answering.{number}
 use Rattle.encounter.proofs.calls.Invariant.{Whole, nothing, at, by-history, whole}
@@ -33,6 +33,10 @@ of-history (at {C} {N} h l u) z e = unfold state in record {
 
 pub read-of : {s : Session} → Readable s → ReadOf s
 read-of {s} r = let (w, h) = whole (r .reached) in of-history h (sym (number w read s) ∙ rw (by-history h reads) at (r .accepted)) (by-history h reads)
+
+-- the same, where no test refuses a read
+pub accepted-read : {s : Session} → Reached s → refusal (history-of s) read ≡ 0 → ReadOf s
+accepted-read {s} r z = read-of (record { reached = r; accepted = number (history-of s) read s ∙ z })
 
 pub no-object-no-time : {s : Session} → Readable s → call reads s .answer .object ≡ 0 → call reads s .answer .time ≡ 0
 unfolding bracket

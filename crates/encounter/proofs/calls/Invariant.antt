@@ -19,7 +19,7 @@ use Rattle.encounter.specs.declared.state.Session.{Session}
 use Rattle.encounter.specs.declared.state.Called.{Called}
 use Rattle.encounter.specs.Session.{empty, state, conjunction-of, bracket}
 use Rattle.encounter.specs.Private.Held.{Begun}
-use Rattle.encounter.specs.Calls.{history-after, follow, session-of, history-of, outcome, Call, adds, asked, call, Reached, from-empty, after}
+use Rattle.encounter.specs.Calls.{history-after, follow, session-of, history-of, outcome, Call, adds, asked, call, Reached, from-empty, after, told-of}
 use Rattle.encounter.specs.Enclosure.{Claim, Every, place, places, Encloses, Named, Demands}
 use Rattle.encounter.proofs.calls.Answering.{by-cases, number, add-12, add-taken}
 
@@ -113,9 +113,12 @@ demands cs = every nothing cs
 
 -- ---- the premise of a call
 
+pub whole-told : {s : Session} (r : Reached s) → Whole s (told-of r)
+whole-told from-empty = nothing
+whole-told (after r c) = keeps (whole-told r) c
+
 pub whole : {s : Session} → Reached s → (w : History) × Whole s w
-whole from-empty = (no-encounter, nothing)
-whole (after r c) = let (w, h) = whole r in (_, keeps h c)
+whole r = (told-of r, whole-told r)
 
 pub state-begun : (C : Conjunction) {N : ℕ} → Accepted (C .encounter) → 1 ≤ N → N ≤ largest-order → Begun (state C N)
 unfolding state

@@ -4,7 +4,7 @@ use mathlib.Core.List.{List, [], _∷_, _++_, map}
 use Prim.Native.Nat.{ℕ, zero, suc, _+_, _≤_, _<_}
 use native.Mathlib.Numerals.{add-one}
 use native.Mathlib.Omega.{arith}
-use lib.ListN.{length, getD, set, take}
+use lib.ListN.{length, length-map, getD, List·getD-map, set, take}
 use lib.Seq.{take-suc, take-suc-set, take-all}
 use Rattle.week.specs.declared.Bracket.{Bracket}
 use Rattle.week.specs.Week.{Entry}
@@ -21,15 +21,6 @@ copy-turn {A} out from i a d h k e g =
 pub copied : {A : Type 0} (out from : List A) (i : ℕ) → length out ≤ i → length from ≤ i → take i out ≡ take i from → out ≡ from
 copied out from i h k e = sym (take-all i out h) ∙ e ∙ take-all i from k
 
-get-map : {A B : Type 0} (f : A → B) (l : List A) (i : ℕ) (a : A) → f (getD l i a) ≡ getD (map f l) i (f a)
-get-map f [] i a = refl
-get-map f (x ∷ l) zero a = refl
-get-map f (x ∷ l) (suc i) a = get-map f l i a
-
-map-length : {A B : Type 0} (f : A → B) (l : List A) → length (map f l) ≡ length l
-map-length f [] = refl
-map-length f (x ∷ l) = ap suc (map-length f l)
-
 abbrev pub places-of : Day → List Bracket
 places-of d = d .places
 
@@ -38,15 +29,15 @@ day-with p = record { places = p }
 
 -- out of the struct
 pub arrays-turn : (out : List (List Bracket)) (days : List Day) (i : ℕ) (d : Day) {p : List Bracket} → i < length out → i < length days → take i out ≡ take i (map places-of days) → p ≡ getD days i d .places → take (i + 1) (set out i p) ≡ take (i + 1) (map places-of days)
-arrays-turn out days i d {p} h k e g = copy-turn out (map places-of days) i p (places-of d) h (omega (arith, k, map-length places-of days)) e (g ∙ get-map places-of days i d)
+arrays-turn out days i d {p} h k e g = copy-turn out (map places-of days) i p (places-of d) h (omega (arith, k, length-map days places-of)) e (g ∙ sym (List·getD-map places-of days i d))
 
 pub arrays-done : (out : List (List Bracket)) (w : Week) (i : ℕ) → length out ≤ i → length (w .days) ≤ i → take i out ≡ take i (map places-of (w .days)) → out ≡ days-of w
 unfolding days-of
-arrays-done out w i h k e = copied out (map places-of (w .days)) i h (omega (arith, k, map-length places-of (w .days))) e
+arrays-done out w i h k e = copied out (map places-of (w .days)) i h (omega (arith, k, length-map (w .days) places-of)) e
 
 -- into the struct
 pub days-turn : (out : List Day) (l : List (List Bracket)) (i : ℕ) (p : List Bracket) {q : Day} → i < length out → i < length l → take i out ≡ take i (map day-with l) → q ≡ day-with (getD l i p) → take (i + 1) (set out i q) ≡ take (i + 1) (map day-with l)
-days-turn out l i p {q} h k e g = copy-turn out (map day-with l) i q (day-with p) h (omega (arith, k, map-length day-with l)) e (g ∙ get-map day-with l i p)
+days-turn out l i p {q} h k e g = copy-turn out (map day-with l) i q (day-with p) h (omega (arith, k, length-map l day-with)) e (g ∙ sym (List·getD-map day-with l i p))
 
 back : (l : List (List Bracket)) → map places-of (map day-with l) ≡ l
 back [] = refl
@@ -59,7 +50,7 @@ days-back l = back l
 pub days-done : (out : List Day) (l : List (List Bracket)) (i : ℕ) → length out ≤ i → length l ≤ i → take i out ≡ take i (map day-with l) → (_≡_ {A = Week} (record { days = out }) (in-days l)) × (days-of (record { days = out }) ≡ l)
 unfolding in-days
 days-done out l i h k e =
-    let c : out ≡ map day-with l = copied out (map day-with l) i h (omega (arith, k, map-length day-with l)) e in
+    let c : out ≡ map day-with l = copied out (map day-with l) i h (omega (arith, k, length-map l day-with)) e in
     ((λ j. record { days = c j }), ap (λ (d : List Day). days-of (record { days = d })) c ∙ days-back l)
 
 -- an entry

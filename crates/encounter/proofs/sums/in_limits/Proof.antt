@@ -1,8 +1,9 @@
-use mathlib.Core.Path.{_≡_, sym, _∙_}
+use mathlib.Core.Path.{sym, _∙_}
 use mir.Facts.{toZ-ofZ}
 use mir.Syntax.{w32}
 use mir.Val.{SFits}
 use borrow.Author.Needs.{needs}
+use Rattle.exact.proofs.Signed.{zero-bits}
 use Rattle.encounter.proofs.sums.Limits.{too-far, of-zero, of-some}
 use Rattle.encounter.proofs.sums.in_limits.Statement.{statement}
 use Rattle.encounter.proofs.sums.in_limits.Tie as tie
@@ -16,15 +17,12 @@ returns c =
     let h : SFits w32 (z .args .x .e) = record { sfits = c .before .before .struct-told .given .1 .0 .1 } in
     too-far (z .args .x) (sym (rw (toZ-ofZ {w = w32} h) at (c .before .far .ensures)) ∙ c .if1 .taken)
 
-is-zero-requires : tie.Need-is-zero-requires
-is-zero-requires c κs = search needs
-
 returns-2 : tie.Need-returns-2
 returns-2 c =
-    let t = c .before .before .before .before in
+    let t = c .before .before .before in
     let x = t .before .args .x in
     let h : SFits w32 (x .e) = record { sfits = t .struct-told .given .1 .0 .1 } in
-    rw (toZ-ofZ {w = w32} h) at (c .is-zero .ensures) ∙ of-zero x (sym (rw (toZ-ofZ {w = w32} h) at (c .before .before .before .far .ensures)) ∙ c .before .before .if1 .left) (c .before .if2 .taken)
+    zero-bits (x .e) h ∙ of-zero x (sym (rw (toZ-ofZ {w = w32} h) at (c .before .before .far .ensures)) ∙ c .before .if1 .left) (c .if2 .taken)
 
 returns-3 : tie.Need-returns-3
 returns-3 c =
@@ -35,4 +33,4 @@ returns-3 c =
     of-some x (sym (rw (toZ-ofZ {w = w32} h) at (c .before .before .far .ensures)) ∙ c .before .if1 .left) (c .if2 .left) (given .0 .1)
 
 pub in-limits-spec : {M : Type 1} → statement M
-in-limits-spec = tie.close (tie.spec far-requires returns is-zero-requires returns-2 returns-3)
+in-limits-spec = tie.close (tie.spec far-requires returns returns-2 returns-3)
