@@ -1,8 +1,8 @@
 /* Brackets of encounters from standard input, one a line: R sx sy xm ym N, or R sx sy xm ym N object time. Begins the encounter, with
  * the object number and the time of closest approach where the line has them, adds N - 1 terms, reads, and prints the three answers in the words of a
  * listing; after a read both ends once more as doubles; with a refusal its condition. A read has four lines more: where rounding starts, its ends as the plotting
- * tool reads them, the record that the tool stores, and the day of the week into which it is entered: 0 to 6, in days of 1,440 minutes, by the time of closest
- * approach.
+ * tool reads them, the record that the tool stores, and the day of the week into which it is entered, or its refusal: 0 to 6, in days of 1,440 minutes, by the time of
+ * closest approach.
  * With an N of 1 no term is added, and there are two answers. An N of 0 stands for the advised order, which is printed too; where there is none, nothing is added
  * or read. The last line has both ends of the week, in the words of a listing too.
  *

@@ -12,7 +12,8 @@
  *     jinthuol_read_doubles(session)                            0, JINTHUOL_BOTH and both ends as doubles: about 0.0764738853 and 0.0764738968
  *     jinthuol_read_plot_record(session)                        0, JINTHUOL_BOTH and object 0, both ends, and the double upper - lower: about 1.15e-08
  *     jinthuol_week week = jinthuol_empty_week();               seven days of eight places, all empty
- *     week = jinthuol_enter(week, 2, session).week;             day 2 has the ends of a read in its first place; where it is refused, the week as it was
+ *     jinthuol_entered entered = jinthuol_enter(week, 2, session);   0, and the week with the ends of a read in the first place of day 2
+ *     week = entered.week;                                      where entered.refusal is not 0, the week as it was: that encounter is not in the figure
  *     jinthuol_week_ends(week)                                  the greatest lower end, and the upper ends added: of one bracket they are its own
  *     jinthuol_conjunction conjunction = {test_1, 25544, 1440}; object 25544, at minute 1440
  *     jinthuol_begin_conjunction(&session, conjunction);        N is 1; reads answer 25544 and 1440

@@ -690,7 +690,8 @@ class Week:
         """An Ends: the greatest lower end held, and the upper ends added, in the order of days and places.
 
         Each sum is rounded up to a scaled number. The chance of at least one collision in the encounters that are held
-        lies between, independent or not. Both are zero where the week is empty.
+        lies between, independent or not. An upper end of 1 or more says nothing. An encounter whose entry was refused
+        is not in the figure. Both are zero where the week is empty.
         """
         return LIBRARY.jinthuol_week_ends(self.kept)
 

@@ -33,7 +33,8 @@ impl Week {
 
     /// The greatest lower end held, and the upper ends added in the order of days and places, each sum rounded up to a
     /// scaled number. The chance of at least one collision in the encounters that are held lies between, independent or
-    /// not. Both are zero where the week is empty.
+    /// not. An upper end of 1 or more says nothing. An encounter whose entry was refused is not in the figure. Both are
+    /// zero where the week is empty.
     pub fn ends(&self) -> Ends {
         ffi::jinthuol_week_ends(*self)
     }
