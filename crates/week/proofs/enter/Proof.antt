@@ -5,7 +5,7 @@ use Rattle.week.proofs.enter.Statement.{statement}
 use Rattle.week.proofs.enter.Tie as tie
 
 returns : tie.Need-returns
-returns c = let z = c .before in refused-13 (z .pre .0) (z .pre .1) (z .args .day) (c .if1 .taken)
+returns c = let z = c .before in refused-13 (z .pre .0) (z .pre .1) (z .args .day) (omega (arith, c .if1 .taken))
 
 read-requires : tie.Need-read-requires
 read-requires c κs = search needs
@@ -28,7 +28,7 @@ returns-2 c =
     let n = t .before in
     let r = n .before .before in
     let z = r .before .before in
-    refused-later (z .pre .0) (z .pre .1) (z .args .day) (r .before .if1 .left) (r .read .ensures .0) (n .next-place .ensures) (t .test-entry .ensures) (c .if2 .taken)
+    refused-later (z .pre .0) (z .pre .1) (z .args .day) (r .before .if1 .left) (r .read .ensures .0) (n .next-place .ensures) (t .test-entry .ensures) (λ z. omega (arith, z, c .if2 .taken))
 
 ends-of-requires : tie.Need-ends-of-requires
 ends-of-requires c κs = search needs
