@@ -1,5 +1,5 @@
 -- Both ends of an accepted read are divided by every whole number above 0, and the quotients enclose what the ends enclose, divided.
-use mathlib.Core.Path.{_≡_, sym}
+use mathlib.Core.Path.{_≡_}
 use mathlib.Core.Bool.{Bool, true, false}
 use Prim.Native.Nat.{ℕ, _≤_, _<_}
 use native.Mathlib.Omega.{arith}
@@ -12,7 +12,7 @@ use Rattle.exact.proofs.Fractions.{≼-trans, div-mono}
 use Rattle.exact.proofs.Ranges.{widen}
 use Rattle.exact.proofs.Rounding.{round-is}
 use Rattle.encounter.specs.declared.state.Session.{Session}
-use Rattle.encounter.specs.Session.{conjunction-of, bracket}
+use Rattle.encounter.specs.Session.{conjunction-of}
 use Rattle.encounter.specs.Calls.{reads, call}
 use Rattle.encounter.specs.Enclosure.{Encloses}
 use Rattle.encounter.specs.Claims.{Readable}

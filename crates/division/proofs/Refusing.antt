@@ -9,7 +9,7 @@ use lib.IntN.{ℤ, pos, negsuc, natAbs}
 use lib.Signed.{ltZ}
 use borrow.Author.Tests.{eq-eqb, ne-eqb, eqb-true, eqb-false, lt-ltb, le-ltb, lt-leb, ltb-false, not-false}
 use Rattle.exact.specs.declared.Scaled.{Scaled}
-use Rattle.exact.specs.Integer.{posPart, negPart}
+use Rattle.exact.specs.Integer.{negPart}
 use Rattle.exact.specs.Numbers.{lowest-exponent}
 use Rattle.exact.specs.Scaled.{Normal, IsScaled}
 use Rattle.exact.specs.Private.Ranges.{InRange}

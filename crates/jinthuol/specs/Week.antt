@@ -2,7 +2,6 @@
 use mathlib.Core.List.{List, map}
 use Rattle.week.specs.declared.Bracket.{Bracket}
 use Rattle.week.specs.Week.{Entry}
-use Rattle.jinthuol.specs.declared.Day.{Day}
 use Rattle.jinthuol.specs.declared.Week.{Week}
 use Rattle.jinthuol.specs.declared.Entered.{Entered}
 

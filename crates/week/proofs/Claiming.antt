@@ -1,5 +1,5 @@
 -- The claims.
-use mathlib.Core.Path.{_≡_, refl, sym, ap, _∙_}
+use mathlib.Core.Path.{_≡_, refl, ap, _∙_}
 use mathlib.Core.Bool.{true}
 use mathlib.Core.List.{List, [], _∷_, map, flatten, map-map, cons-ne-nil}
 use Rattle.exact.specs.Fraction.{Frac}

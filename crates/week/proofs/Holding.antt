@@ -1,9 +1,9 @@
 -- Weeks of which the reads are told: what they hold.
 use mathlib.Core.Path.{_≡_, refl, sym, ap, _∙_}
-use mathlib.Core.List.{List, [], _∷_, map, flatten}
+use mathlib.Core.List.{[], _∷_, map, flatten}
 use Rattle.week.specs.declared.Bracket.{Bracket}
-use Rattle.week.specs.Week.{Day, Week, held-in, held}
-use Rattle.week.specs.Told.{Read, Told, place-of, day-with, week-with}
+use Rattle.week.specs.Week.{held-in, held}
+use Rattle.week.specs.Told.{Told, place-of, day-with, week-with}
 use Rattle.week.proofs.Folding.{map-flat}
 use Rattle.week.proofs.Places.{day-holds}
 

@@ -1,17 +1,15 @@
 -- The demands over every list of calls, entries among them.
 use mathlib.Core.Path.{_≡_, refl, sym, ap, _∙_}
 use mathlib.Core.Bool.{Bool, true, false, cond}
-use mathlib.Core.List.{List, [], _∷_, foldl}
 use Prim.Native.Nat.{ℕ}
 use lib.Dec.{eqb}
 use Rattle.exact.specs.Records.{read}
-use Rattle.exact.specs.Refusals.{History, no-encounter, refusal, entry-refusal}
+use Rattle.exact.specs.Refusals.{History, refusal, entry-refusal}
 use Rattle.encounter.specs.declared.state.Session.{Session}
-use Rattle.encounter.specs.Session.{empty}
-use Rattle.encounter.specs.Calls.{follow, session-of, history-of, Call, reads, asked, call}
-use Rattle.encounter.specs.Enclosure.{place, Claim}
+use Rattle.encounter.specs.Calls.{follow, session-of, history-of, reads, call}
+use Rattle.encounter.specs.Enclosure.{place}
 use Rattle.encounter.proofs.calls.Invariant.{Whole, session-is, history-is, whole-told, claim}
-use Rattle.week.specs.Week.{Week, day-of, next-place, ends-of, entered, enter}
+use Rattle.week.specs.Week.{Week, day-of, next-place, enter}
 use Rattle.week.specs.Lists.{EntersAsRead, EntryDemands}
 use Rattle.week.proofs.Tests.{enters, stays, goes-in, read-number}
 

@@ -1,11 +1,10 @@
 -- A day's next empty place, and a day of which the reads are told: their ends, then empty places.
-use mathlib.Core.Path.{_≡_, refl, sym, ap, _∙_, subst}
-use mathlib.Core.Bool.{true, false, cond}
+use mathlib.Core.Path.{_≡_, refl, sym, ap, _∙_}
 use mathlib.Core.List.{List, [], _∷_, _++_, map, map-append, append-assoc}
-use Prim.Native.Nat.{ℕ, zero, suc, _+_, _-_, _≤_, _<_}
+use Prim.Native.Nat.{ℕ, zero, suc, _+_, _-_, _<_}
 use native.Mathlib.Omega.{arith}
 use borrow.Author.Tests.{eq-eqb, ne-eqb}
-use lib.ListN.{length, length-map, getD, set, take, drop, replicate, length-append, length-replicate}
+use lib.ListN.{length, length-map, getD, set, drop, replicate, length-append}
 use lib.Seq.{drop-cons, set-append-seam}
 use Rattle.exact.specs.Numbers.{places-a-day}
 use Rattle.week.specs.declared.Bracket.{Bracket}

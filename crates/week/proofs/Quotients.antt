@@ -1,8 +1,6 @@
 -- The ends of reads, gathered, against their exact quotients.
-use mathlib.Core.Path.{_≡_, refl, sym, _∙_}
-use mathlib.Core.Bool.{Bool, true, false, cond, true≢false}
+use mathlib.Core.Bool.{Bool, true, false, cond}
 use mathlib.Core.List.{List, [], _∷_, foldl, map}
-use mathlib.Core.Logic.{⊎-elim}
 use Prim.Native.Nat.{ℕ, _≤_}
 use native.Mathlib.Omega.{arith}
 use lib.Dec.{lit<}
@@ -12,8 +10,7 @@ use Rattle.exact.specs.Numbers.{exponential-cut}
 use Rattle.exact.specs.Scaled.{nought, value, U}
 use Rattle.exact.specs.Series.{quotient}
 use Rattle.exact.specs.Steps.{lower-end, upper-end}
-use Rattle.exact.proofs.Fractions.{≼-refl, ≼-trans, ≼-of, ≽-of, add-mono, add-assoc, add-zero, zero-add, zero-least, ≺-or-≼, ≼-of-≺}
-use Rattle.exact.proofs.Order.{at-most-yes, at-most-holds, at-most-no}
+use Rattle.exact.proofs.Fractions.{≼-trans, ≼-of, ≽-of, add-mono, add-assoc, add-zero, zero-add, zero-least}
 use Rattle.exact.proofs.Rounding.{round-is}
 use Rattle.encounter.specs.Enclosure.{Every}
 use Rattle.encounter.specs.Sums.{greater}

@@ -1,15 +1,14 @@
 -- Every week from these calls is the one that its entries tell, and every read that they tell was accepted.
 use mathlib.Core.Path.{_≡_, refl, sym, ap, _∙_, subst}
-use mathlib.Core.Bool.{Bool, true, false, cond}
+use mathlib.Core.Bool.{Bool, true, false}
 use mathlib.Core.List.{List, [], _∷_, _++_, map}
 use mathlib.Core.Logic.{⊎-elim}
-use Prim.Native.Nat.{ℕ, suc, _+_, _*_, _^_, _≤_, _<_}
+use Prim.Native.Nat.{ℕ, _+_, _^_, _≤_, _<_}
 use native.Mathlib.Omega.{arith}
 use borrow.Author.Tests.{eqb-true, eqb-false, ne-eqb}
 use lib.Dec.{eqb, lit≤}
-use lib.ListN.{length, getD, set, length-set, length-append}
+use lib.ListN.{length, set, length-set, length-append}
 use Rattle.exact.specs.declared.Conjunction.{Conjunction}
-use Rattle.exact.specs.declared.Scaled.{Scaled}
 use Rattle.exact.specs.Numbers.{days-a-week, places-a-day}
 use Rattle.exact.specs.Records.{read}
 use Rattle.exact.specs.Refusals.{History, no-encounter, encounter-at, refusal, entry-refusal}
@@ -29,7 +28,7 @@ use Rattle.week.specs.Week.{Week, empty-week, day-of, next-place, ends-o
 use Rattle.week.specs.Told.{Read, Told, nothing-told, reads-of, tell, place-of, day-with, week-with, Came, from-empty, after}
 use Rattle.week.proofs.Folding.{every-same, every-set, every-get, every-append, map-set, get-map}
 use Rattle.week.proofs.Places.{next-is, put-next}
-use Rattle.week.proofs.Tests.{test-13, Enters, enters, stays, goes-in}
+use Rattle.week.proofs.Tests.{test-13, enters, stays, goes-in}
 use Rattle.week.proofs.Quotients.{Encloses}
 
 -- a read that was accepted: its ends enclose, and their exponents are not far

@@ -1,8 +1,7 @@
 -- The tests of an entry by cases, as code takes them, and what an entry then answers.
-use mathlib.Core.Path.{_≡_, refl, sym, ap, _∙_}
+use mathlib.Core.Path.{_≡_, refl, sym, _∙_}
 use mathlib.Core.Bool.{Bool, true, false, cond, true≢false}
-use Prim.Native.Nat.{ℕ, suc, _≤_, _<_}
-use native.Mathlib.Omega.{arith}
+use Prim.Native.Nat.{ℕ, _≤_, _<_}
 use lib.Dec.{eqb}
 use borrow.Author.Tests.{eq-eqb, ne-eqb, le-leb, lt-leb, leb-false, eqb-true}
 use Rattle.exact.specs.Numbers.{days-a-week, places-a-day}
@@ -10,11 +9,9 @@ use Rattle.exact.specs.Records.{read}
 use Rattle.exact.specs.Refusals.{History, refusal, refuses-13, refuses-24, test-24, entry-refusal}
 use Rattle.exact.proofs.Accepted.{passed}
 use Rattle.encounter.specs.declared.state.Session.{Session}
-use Rattle.encounter.specs.declared.state.Answer.{Answer}
 use Rattle.encounter.specs.Calls.{history-of, reads, call}
 use Rattle.encounter.proofs.calls.Answering.{number}
-use Rattle.week.specs.declared.Bracket.{Bracket}
-use Rattle.week.specs.Week.{Week, day-of, next-place, ends-of, entered, Entry, enter}
+use Rattle.week.specs.Week.{Week, day-of, next-place, ends-of, entered, enter}
 
 -- ---- the number
 

@@ -1,7 +1,7 @@
 -- The ends as code gathers them are the week's: the numbers that it sums and compares are in the limits of the arithmetic.
 use mathlib.Core.Path.{_≡_, refl, sym, ap, _∙_}
 use mathlib.Core.Bool.{Bool, true, false, cond}
-use mathlib.Core.List.{List, [], _∷_, _++_, foldl, foldl-append, map, flatten}
+use mathlib.Core.List.{List, [], _∷_, foldl, foldl-append, map, flatten}
 use Prim.Native.Nat.{ℕ, _+_, _*_, _^_, _≤_}
 use native.Mathlib.Omega.{arith}
 use borrow.Author.Tests.{eq-eqb, ne-eqb}
@@ -24,7 +24,7 @@ use Rattle.week.specs.Told.{Read, place-of, FromCalls}
 use Rattle.week.specs.Private.Walk.{no-ends, with-bracket, with-place, with-day}
 use Rattle.week.proofs.Folding.{every-flat, flat-length}
 use Rattle.week.proofs.Holding.{week-holds}
-use Rattle.week.proofs.Telling.{Good, Sound, sound}
+use Rattle.week.proofs.Telling.{Good, sound}
 
 -- ---- one place
 

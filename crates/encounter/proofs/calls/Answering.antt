@@ -1,12 +1,10 @@
 -- The calls by cases, as code takes them.
 use mathlib.Core.Path.{_≡_, refl, sym, _∙_, subst, ap}
 use mathlib.Core.Bool.{Bool, true, false, cond}
-use Prim.Native.Nat.{ℕ, suc, pred, _+_, _≤_, _<_}
+use Prim.Native.Nat.{ℕ, _+_, _≤_, _<_}
 use native.Mathlib.Omega.{arith}
-use borrow.Author.Tests.{lt-ltb, le-ltb, eq-eqb, ne-eqb, eqb-true, eqb-false, ltb-true, ltb-false}
-use lib.Dec.{ltb, eqb, T}
-use lib.IntN.{ℤ, pos, negsuc}
-use lib.Signed.{ltZ}
+use borrow.Author.Tests.{lt-ltb, le-ltb, eq-eqb, ne-eqb, eqb-true, eqb-false}
+use lib.Dec.{ltb, eqb}
 use Rattle.exact.specs.declared.Encounter.{Encounter}
 use Rattle.exact.specs.declared.Scaled.{Scaled}
 use Rattle.exact.specs.Losses.{exact-terms}

@@ -3,7 +3,6 @@ use mathlib.Core.List.{map}
 use Prim.Native.Nat.{_≤_, _-_}
 use native.Mathlib.Omega.{arith}
 use lib.ListN.{length, take, length-set}
-use borrow.Author.Needs.{needs}
 use Rattle.exact.specs.Numbers.{days-a-week}
 use Rattle.jinthuol.proofs.weeks.Copies.{day-with, days-turn, days-done}
 use Rattle.jinthuol.proofs.weeks.days_in.Statement.{statement}
