@@ -16,6 +16,7 @@ import sys
 
 WORD = re.compile(r"[^\s(){}\[\];,.`\"]+")
 DECLARED = re.compile(r"^(\s*)((?:(?:unfoldable|abbrev|pub)\s+)*)(record\s+|data\s+)?([^\s:(){};,.]+)\s+(:|\(|\{)")
+OWN = os.listdir("crates")
 TYPE = re.compile(r"(→|:)\s*Type 0\s*$")
 
 
@@ -79,12 +80,23 @@ def turn(text, new):
     return WORD.sub(lambda m: new.get(m.group(0), m.group(0)), text)
 
 
-def but_library(text, new):
-    """Without the names that this file imports from the library."""
-    theirs = set()
-    for items in re.findall(r"^\s*(?:ghost |pub )?use Rattle\.(?:std|core|io|os|libc)\b[^{;\n]*\{([^}]*)\}", text, re.M):
-        theirs |= {i.split(" as ")[0].strip() for i in items.split(",")}
-    return {n: to for n, to in new.items() if n not in theirs}
+def is_theirs(root):
+    return not (root.startswith("Rattle.") and root.split(".")[1] in OWN)
+
+
+def turn_file(text, new, source=False):
+    """Without the names that this file imports from the library, whose import lines stay as they are."""
+    theirs, kept = set(), []
+    for root, items in re.findall(r"^\s*(?:ghost |pub )?use ([^{;\n]*)\.\{([^}]*)\}", text, re.M):
+        if is_theirs(root):
+            theirs |= {i.strip() for i in items.split(",") if " as " not in i}
+    ours = {n: to for n, to in new.items() if n not in theirs}
+    got = (turn_source if source else turn)(text, ours).split("\n")
+    for line, was in zip(got, text.split("\n")):
+        m = re.match(r"\s*(?:ghost |pub )?use ([^{;\n]*)\.\{", was)
+        # an alias is the file's own name
+        kept.append(re.sub(r"(?<= as )[^,}\s]+", lambda a: ours.get(a.group(0), a.group(0)), was) if m and is_theirs(m.group(1)) else line)
+    return "\n".join(kept)
 
 
 def turn_source(text, new):
@@ -131,12 +143,12 @@ def main():
         return
     for p in files():
         text = open(p, encoding="utf-8").read()
-        got = turn(text, but_library(text, new))
+        got = turn_file(text, new)
         if got != text:
             open(p, "w", encoding="utf-8").write(got)
     for p in glob.glob("crates/*/src/**/*.rt", recursive=True):
         text = open(p, encoding="utf-8").read()
-        got = turn_source(text, but_library(text, new))
+        got = turn_file(text, new, source=True)
         if got != text:
             open(p, "w", encoding="utf-8").write(got)
     with open(kept, "w", encoding="utf-8") as f:

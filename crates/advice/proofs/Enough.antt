@@ -1,6 +1,6 @@
 -- The two conditions on whole numbers, and that they pass from an order to every later one and from an M to every smaller one.
 use Prim.Native.Nat.{ℕ, zero, suc, ◌+◌, ◌*◌, ◌^◌, ◌≤◌}
-use native.Mathlib.Nat.{add_zero, add-suc, le_dest, mul-le-mul_left, mul-le-mul_right, pow-zero, pow-succ', pow-le-pow_left, le_trans, suc-pred-eq_of_pos}
+use native.Mathlib.Nat.{add-zero, add-suc, le_dest, mul-le-mul_left, mul-le-mul_right, pow-zero, pow-succ', pow-le-pow_left, le_trans, suc-pred-eq_of_pos}
 use native.Mathlib.Omega.{arith}
 use Rattle.exact.specs.Fraction.{◌over◌}
 use Rattle.exact.specs.Series.{factorial}
@@ -35,7 +35,7 @@ next M N e =
     (rw (pow-succ' M N) (step M N (M ^ N) tail_odds (factorial (suc N)) (omega (arith, e.passes)) (small_of M N e)))
 
 so_many : (M N d : ℕ) → Enough M N → Enough M (N + d)
-so_many M N zero e = rw (add_zero N) e
+so_many M N zero e = rw (add-zero N) e
 so_many M N (suc d) e = rw (add-suc N d) (next M (N + d) (so_many M N d e))
 
 pub later : (M N N' : ℕ) → N ≤ N' → Enough M N → Enough M N'

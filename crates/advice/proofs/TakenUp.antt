@@ -2,7 +2,7 @@
 use mathlib.Core.Path.{◌≡◌, refl, sym, ap, ◌∙◌, subst}
 use mathlib.Core.Bool.{true, false}
 use Prim.Native.Nat.{ℕ, zero, suc, pred, ◌+◌, ◌-◌, ◌*◌, ◌/◌, ◌%◌, ◌^◌, ◌≤◌, ◌<◌}
-use native.Mathlib.Nat.{le_of_suc-le-suc, div-add-mod', mod-lt, div-lt_iff_lt-mul, mul_one, div-one, mul-le-mul_left, suc-pred-eq_of_pos, mul-pos, zero-lt-suc}
+use native.Mathlib.Nat.{le_of_suc-le-suc, div-add-mod', mod-lt, div-lt_iff_lt-mul, mul-one, div-one, mul-le-mul_left, suc-pred-eq_of_pos, mul-pos, zero-lt-suc}
 use native.Mathlib.Omega.{arith}
 use lib.Dec.{T, lt→ltb}
 use lib.IntN.{ℤ, pos, negsuc, ◌-ℤ◌}
@@ -59,7 +59,7 @@ opposite e h = balanced _ _ (omega (arith, bal_diff (pos 0) e, h))
 
 taken_up_is : (x : Scaled) → pos_part x.e ≡ 0 → taken_up (value x) ≡ (x.m + pred (2 ^ neg_part x.e)) / 2 ^ neg_part x.e
 unfolding taken_up value
-taken_up_is x z = rw (z, mul_one x.m)
+taken_up_is x z = rw (z, mul-one x.m)
 
 split : (m d : ℕ) → 0 < m → suc (pred d) ≡ d → m + pred d ≡ 1 * d + (m - 1)
 split m d p s = omega arith

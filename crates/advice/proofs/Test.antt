@@ -4,7 +4,7 @@ use mathlib.Core.Bool.{Bool, true, false, not, ◌&&◌, true≢false}
 use mathlib.Core.List.{List, [], ◌∷◌}
 use mathlib.Core.Logic.{⊎_elim}
 use Prim.Native.Nat.{ℕ, zero, suc, ◌+◌, ◌-◌, ◌*◌, ◌^◌, ◌≤◌, ◌<◌}
-use native.Mathlib.Nat.{add_zero, zero_add, add-suc, suc-add, le_of_suc-le-suc, not-suc-le-zero}
+use native.Mathlib.Nat.{add-zero, zero-add, add-suc, suc-add, le_of_suc-le-suc, not-suc-le-zero}
 use native.Mathlib.Omega.{arith}
 use borrow.Author.Tests.{leb-true, le-leb, not-true}
 use lib.Dec.{leb}
@@ -68,7 +68,7 @@ every i (x ∷ xs) = is_entry (suc i) x (factorial x) && every (suc i) xs
 from : (xs : List ℕ) (i : ℕ) → every i xs ≡ true → (k : ℕ) → k < length xs → Least (suc (i + k)) (get_or xs k 0)
 unfolding every
 from [] i t k h = absurd (not-suc-le-zero h)
-from (x ∷ xs) i t zero h = rw (add_zero i) (entry_of (suc i) x (both_true (is_entry (suc i) x (factorial x)) (every (suc i) xs) t).0)
+from (x ∷ xs) i t zero h = rw (add-zero i) (entry_of (suc i) x (both_true (is_entry (suc i) x (factorial x)) (every (suc i) xs) t).0)
 from (x ∷ xs) i t (suc k) h =
     subst (λ (m : ℕ). Least (suc m) (get_or xs k 0)) (suc-add i k ∙ sym (add-suc i k))
     (from xs (suc i) (both_true (is_entry (suc i) x (factorial x)) (every (suc i) xs) t).1 k (le_of_suc-le-suc h))
@@ -78,7 +78,7 @@ tested_table xs n t = record { entry = at }
   where
     at : (M : ℕ) → 1 ≤ M → M ≤ largest_M → Least M (get_or xs (M - 1) 0)
     at zero p l = absurd (not-suc-le-zero p)
-    at (suc k) p l = let e : suc k - 1 ≡ k = omega arith in rw e (rw (zero_add k) at (from xs 0 t k (rw n l)))
+    at (suc k) p l = let e : suc k - 1 ≡ k = omega arith in rw e (rw (zero-add k) at (from xs 0 t k (rw n l)))
 
 -- ---- the entry computed
 

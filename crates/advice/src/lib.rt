@@ -11,7 +11,7 @@ mod table;
 use crate::entry::entry_for;
 use encounter::state::Session;
 
-#[derive(Drop)]
+#[derive(Clone, Copy)]
 pub enum Advice {
     // The entry of the table for M taken up to a whole number.
     Order(u16),

@@ -13,7 +13,7 @@ use exact::{LOWEST_EXPONENT, Scaled};
 
 // The refusal's number, or 0; then the quotient, which is zero where it is refused.
 #[repr(C)]
-#[derive(Drop)]
+#[derive(Clone, Copy)]
 pub struct Divided {
     pub refusal: u32,
     pub quotient: Scaled,

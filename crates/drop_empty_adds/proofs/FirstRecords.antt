@@ -4,7 +4,7 @@ use mathlib.Core.Bool.{Bool, true, false, cond, not, ◌||◌}
 use mathlib.Core.List.{List, ◌++◌}
 use Prim.Native.Nat.{ℕ, ◌+◌, ◌-◌, ◌≤◌, ◌<◌}
 use native.Mathlib.Omega.{arith}
-use native.Mathlib.Nat.{add_zero}
+use native.Mathlib.Nat.{add-zero}
 use borrow.Author.Tests.{le-ltb, lt-leb, ltb-false, not-false}
 use lib.Dec.{leb, T}
 use lib.ListN.{length, take, drop, get_or, length-append, length-drop, get_or-append}
@@ -108,7 +108,7 @@ module _ (l : List ℕ) (i : ℕ) where
   byte_at k = sym (get_or-drop i l k 0)
 
   pub kind_at : get_or l i 0 ≡ get_or (drop i l) 0 0
-  kind_at = ap (λ (n : ℕ). get_or l n 0) (sym (add_zero i)) ∙ byte_at 0
+  kind_at = ap (λ (n : ℕ). get_or l n 0) (sym (add-zero i)) ∙ byte_at 0
 
   test_1 : refuses_1 l i ≡ refuses_1 (drop i l) 0
   unfolding refuses_1

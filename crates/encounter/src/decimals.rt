@@ -63,7 +63,7 @@ fn first_power(s: u64) -> usize
 }
 
 // The least power, or 47, and the whole part of the product that reaches 1,000 there.
-#[derive(Drop)]
+#[derive(Clone, Copy)]
 struct Reaching {
     k: usize,
     whole: u64,

@@ -6,7 +6,7 @@ use exact::{Encounter, Scaled};
 
 // A side's letters.
 #[repr(C)]
-#[derive(Drop)]
+#[derive(Clone, Copy)]
 pub struct Letters {
     pub u: Scaled,
     pub h: Scaled,
@@ -17,7 +17,7 @@ pub struct Letters {
 
 // A side's c, p, v and y at N - 1, and its sum of c(0) to c(N - 1).
 #[repr(C)]
-#[derive(Drop)]
+#[derive(Clone, Copy)]
 pub struct Terms {
     pub c: Scaled,
     pub p: Scaled,
@@ -28,7 +28,7 @@ pub struct Terms {
 
 // What a side keeps: its letters, its exponential sum and its terms.
 #[repr(C)]
-#[derive(Drop)]
+#[derive(Clone, Copy)]
 pub struct Side {
     pub letters: Letters,
     pub exponential: Scaled,
@@ -39,7 +39,7 @@ pub struct Side {
 // sides, the upper r(256), M, and the upper d(N); then the count of exact terms, the leading ones (request #105), and 1 where nothing was lost on the way to
 // what the next term is formed of, else 0.
 #[repr(C)]
-#[derive(Drop)]
+#[derive(Clone, Copy)]
 pub struct Session {
     pub encounter: Encounter,
     pub object: u32,
@@ -54,7 +54,7 @@ pub struct Session {
     pub lossless: u32,
 }
 
-#[derive(Drop)]
+#[derive(Clone, Copy)]
 pub enum Class {
     Clear,
     Alert,
@@ -62,7 +62,7 @@ pub enum Class {
 }
 
 // The refusal's number, or 0; then the order, both ends and the class, and of an accepted read the object number, the time and how many of the first terms are exact.
-#[derive(Drop)]
+#[derive(Clone, Copy)]
 pub struct Answer {
     pub refusal: u32,
     pub N: u32,
@@ -93,7 +93,7 @@ impl Answer {
 }
 
 // What a call answers, and the session after it.
-#[derive(Drop)]
+#[derive(Clone, Copy)]
 pub struct Called {
     pub answer: Answer,
     pub session: Session,

@@ -2,12 +2,12 @@
 use mathlib.Core.Path.{◌≡◌, refl, sym, ◌∙◌}
 use mathlib.Core.Bool.{Bool, true, false, true≢false}
 use mathlib.Core.Logic.{⊎_elim}
-use Prim.Native.Nat.{ℕ, suc, ◌-◌, ◌*◌, ◌^◌, ◌≤◌, ◌<◌}
+use Prim.Native.Nat.{ℕ, suc, ◌*◌, ◌^◌, ◌≤◌, ◌<◌}
 use native.Mathlib.Nat.{le_of_suc-le-suc, mul-le-mul_left, div-lt_iff_lt-mul, div-add-mod', le-div_iff_mul-le, mod-lt, pow-succ', pow-le-pow_right}
 use native.Mathlib.Omega.{arith}
 use lib.Dec.{lit<}
 use Rattle.exact.specs.declared.Scaled.{Scaled}
-use Rattle.exact.specs.Fraction.{Frac, ◌≼◌, ◌≈◌, ◌⊗◌, ◌over◌, whole, above}
+use Rattle.exact.specs.Fraction.{Frac, ◌≼◌, ◌≈◌, ◌⊗◌, ◌over◌, whole}
 use Rattle.exact.specs.Scaled.{value, OnSide}
 use Rattle.exact.specs.Decimals.{table_length, entry, times_power, reaches, least_power, floor}
 use Rattle.exact.proofs.Fractions.{◌≺◌, ≼_refl, ≼_trans, ≼_≺, ≼_of_≺, ≺_or_≼, ≼_of, ≽_of, lt_or_le, mul_mono, mul_assoc, whole_mono}

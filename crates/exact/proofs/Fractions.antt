@@ -4,7 +4,7 @@ use mathlib.Core.Path.{◌≡◌, refl, sym}
 use mathlib.Core.Logic.{◌⊎◌, inl, inr}
 use mathlib.Core.Bool.{Bool, true, false, not}
 use Prim.Native.Nat.{ℕ, zero, suc, pred, ◌+◌, ◌*◌, ◌≤◌, ◌<◌}
-use native.Mathlib.Nat.{le_dest, add-suc, add_zero as plus_zero, mul-pos, le_of_mul-le-mul_right, lt_of_mul-lt-mul_right, mul-le-mul_right, mul-lt-mul_of_pos_right, mul-le-mul, le_of_eq, le_of_lt, le_antisymm, lt_irrefl, suc-pred-eq_of_pos}
+use native.Mathlib.Nat.{le_dest, add-suc, add-zero as plus_zero, mul-pos, le_of_mul-le-mul_right, lt_of_mul-lt-mul_right, mul-le-mul_right, mul-lt-mul_of_pos_right, mul-le-mul, le_of_eq, le_of_lt, le_antisymm, lt_irrefl, suc-pred-eq_of_pos}
 use native.Mathlib.Omega.{arith}
 use lib.Dec.{T, ltb, ltb→lt, nltb→le}
 use Rattle.exact.specs.Fraction.{Frac, ◌≼◌, ◌≈◌, whole, ◌⊕◌, ◌⊗◌, ◌÷◌, ◌⊘◌, ◌↑◌, sum}

@@ -7,7 +7,7 @@ use native.Mathlib.Nat.{le_trans, le_of_eq, mul-le-mul_left, mul-le-mul_right, m
 use native.Mathlib.Omega.{arith}
 use lib.Dec.{ltb, T, ltb→lt, nltb→le}
 use lib.IntN.{sub_ℕ}
-use lib.Pow.{pow_pos, pow_add, pow_mono}
+use lib.Pow.{pow_pos, pow-add, pow_mono}
 use Rattle.exact.specs.Fraction.{Frac, ◌≼◌, ◌≈◌}
 use Rattle.exact.specs.Scaled.{scaled, value}
 use Rattle.exact.proofs.Integers.{bal_sub}
@@ -18,7 +18,7 @@ unfoldable pub point : ℕ → ℕ → ℕ → Frac
 point m j k = record { num = m * 2 ^ j; den = 2 ^ k; pos = pow_pos k }
 
 pub pow_eq : (a b c d : ℕ) → a + b ≡ c + d → 2 ^ a * 2 ^ b ≡ 2 ^ c * 2 ^ d
-pow_eq a b c d h = sym (pow_add 2 a b) ∙ ap (λ (x : ℕ). 2 ^ x) h ∙ pow_add 2 c d
+pow_eq a b c d h = sym (pow-add 2 a b) ∙ ap (λ (x : ℕ). 2 ^ x) h ∙ pow-add 2 c d
 
 -- the same point on two grids
 pub same_point : (m j k j' k' : ℕ) → j + k' ≡ j' + k → point m j k ≈ point m j' k'
@@ -34,7 +34,7 @@ value_point m j k = same_point m _ _ j k (bal_sub j k)
 module _ (b m n A B : ℕ) (low : 2 ^ b ≤ 2 * m) (high : n < 2 ^ b) (h : n * 2 ^ A < suc m * 2 ^ B) where
   fine : B ≤ A → n * 2 ^ A ≤ m * 2 ^ B
   fine l =
-      let e : 2 ^ A ≡ 2 ^ (A - B) * 2 ^ B = ap (λ (x : ℕ). 2 ^ x) (omega arith) ∙ pow_add 2 (A - B) B in
+      let e : 2 ^ A ≡ 2 ^ (A - B) * 2 ^ B = ap (λ (x : ℕ). 2 ^ x) (omega arith) ∙ pow-add 2 (A - B) B in
       let k : n * 2 ^ (A - B) < suc m = lt_of_mul-lt-mul_right (2 ^ B) (omega (arith, h, ap (λ (x : ℕ). n * x) e)) in
       let t : n * 2 ^ (A - B) ≤ m = omega arith in
       omega (arith, mul-le-mul_right (2 ^ B) t, ap (λ (x : ℕ). n * x) e)
@@ -51,8 +51,8 @@ module _ (b m n A B : ℕ) (low : 2 ^ b ≤ 2 * m) (high : n < 2 ^ b) (h : n * 2
 pub below_next : (b m j k n j' k' : ℕ) → 2 ^ b ≤ 2 * m → n < 2 ^ b → point n j' k' ≺ point (suc m) j k → point n j' k' ≼ point m j k
 unfolding point
 below_next b m j k n j' k' low high h =
-    let l : n * 2 ^ (j' + k) < suc m * 2 ^ (j + k') = rw (pow_add 2 j' k, pow_add 2 j k') (omega (arith, h.lt)) in
-    record { le = omega (arith, rw (pow_add 2 j' k, pow_add 2 j k') at (grid_le b m n (j' + k) (j + k') low high l)) }
+    let l : n * 2 ^ (j' + k) < suc m * 2 ^ (j + k') = rw (pow-add 2 j' k, pow-add 2 j k') (omega (arith, h.lt)) in
+    record { le = omega (arith, rw (pow-add 2 j' k, pow-add 2 j k') at (grid_le b m n (j' + k) (j + k') low high l)) }
 
 -- ---- between a point and the next
 
@@ -101,7 +101,7 @@ module _ (q : Frac) (n d j k : ℕ) (dp : 0 < d) (is : q.num * (d * 2 ^ k) ≡ n
 
 module _ (h j k t : ℕ) where
   up_by : 2 ^ (j + t) ≡ 2 ^ j * 2 ^ t
-  up_by = pow_add 2 j t
+  up_by = pow-add 2 j t
 
   coarser_low : point (h / 2 ^ t) (j + t) k ≼ point h j k
   unfolding point

@@ -3,7 +3,7 @@ use mathlib.Core.Path.{◌≡◌, sym, ◌∙◌, ap}
 use mathlib.Core.Bool.{Bool, true, false, true≢false}
 use mathlib.Core.Logic.{⊎_elim}
 use Prim.Native.Nat.{ℕ, suc, pred, ◌+◌, ◌-◌, ◌*◌, ◌^◌, ◌≤◌, ◌<◌}
-use native.Mathlib.Nat.{mul-le-mul_right, pow-succ', one_le_pow, suc-pred-eq_of_pos}
+use native.Mathlib.Nat.{mul-le-mul_right, pow-succ', one-le-pow, suc-pred-eq_of_pos}
 use native.Mathlib.Omega.{arith}
 use lib.Dec.{lit<}
 use Rattle.exact.specs.declared.Scaled.{Scaled}
@@ -48,7 +48,7 @@ module _ (x : Scaled) (n p : ℕ) (few : n < 10000) (low : p ≤ 43) (four : 100
   t = 10 ^ (p + 3)
 
   t_pos : 0 < t
-  t_pos = one_le_pow (p + 3) 10 (lit< tt)
+  t_pos = one-le-pow (p + 3) 10 (lit< tt)
 
   abbrev d : Decimal
   d = record { digits = n; power = p }

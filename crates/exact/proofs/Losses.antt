@@ -5,7 +5,7 @@ use mathlib.Core.Path.{◌≡◌, refl, sym, ◌∙◌, ap}
 use mathlib.Core.Bool.{Bool, true, false, cond, not, ◌||◌, true≢false}
 use mathlib.Core.Logic.{◌⊎◌, inl, inr}
 use Prim.Native.Nat.{ℕ, zero, suc, ◌+◌, ◌≤◌, ◌<◌}
-use native.Mathlib.Nat.{add_zero, add-suc, suc-add, lt_irrefl, le_dest, le_of_suc-le-suc}
+use native.Mathlib.Nat.{add-zero, add-suc, suc-add, lt_irrefl, le_dest, le_of_suc-le-suc}
 use native.Mathlib.Omega.{arith}
 use lib.Dec.{lit<}
 use borrow.Author.Tests.{not-true, not-false}
@@ -235,7 +235,7 @@ module _ (E : Encounter) where
 
   -- and the other way: before an exact term all are exact
   before_exact : (n j : ℕ) → either_lost E (n + j) ≡ false → either_lost E n ≡ false
-  before_exact n zero e = rw add_zero at e
+  before_exact n zero e = rw add-zero at e
   before_exact n (suc j) e = before_exact n j (term_exact _ (operands_exact _ (rw add-suc at e)))
 
   all_exact : (n : ℕ) → either_lost E n ≡ false → (j : ℕ) → j < suc n → either_lost E j ≡ false
@@ -289,7 +289,7 @@ module _ (E : Encounter) where
 
   -- where something was: it is so at every later index, and no more terms are counted
   operands_later : (n k : ℕ) → operands_lost E n ≡ true → operands_lost E (n + k) ≡ true
-  operands_later n zero o = rw add_zero o
+  operands_later n zero o = rw add-zero o
   operands_later n (suc k) o = rw add-suc (true_by _ _ (term_exact E _) (next_lost E _ (operands_later n k o)))
 
   count_later : (n k : ℕ) → operands_lost E n ≡ true → exact_terms E (suc n + k) ≡ exact_terms E (suc n)

@@ -1,6 +1,6 @@
 -- With h at most u, F(k) is at most m^(k+1) for m = u + h/2 + X + Y; so c(n) is at most c(0) m^n/(n+1)!, and the tails of both sums are bounded.
 use Prim.Native.Nat.{ℕ, zero, suc, ◌+◌, ◌≤◌}
-use native.Mathlib.Nat.{add-suc, add_zero as plus_zero, le-add_right, le_dest}
+use native.Mathlib.Nat.{add-suc, add-zero as plus_zero, le-add_right, le_dest}
 use native.Mathlib.Omega.{arith}
 use Rattle.exact.specs.Fraction.{Frac, ◌≼◌, ◌≈◌, ◌⊕◌, ◌⊗◌, ◌÷◌, ◌↑◌, whole, sum}
 use Rattle.exact.specs.declared.Encounter.{Encounter}

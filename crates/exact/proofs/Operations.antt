@@ -8,7 +8,7 @@ use native.Mathlib.Nat.{mul-le-mul_left, mul-le-mul_right, mul-pos, mul-add-div_
 use native.Mathlib.Omega.{arith}
 use lib.Dec.{ltb}
 use lib.IntN.{ℤ, pos, ◌+ℤ◌, ◌-ℤ◌}
-use lib.Pow.{pow_pos, pow_add, shl_lt}
+use lib.Pow.{pow_pos, pow-add, shl_lt}
 use lib.Ieee.{size}
 use lib.Ieee.Digits.{size-lt, size-le}
 use Rattle.exact.specs.declared.Scaled.{Scaled}
@@ -49,7 +49,7 @@ unfolding value ◌⊗◌
 product_packs up b x y bp n n' =
     exact_packs up b (value x ⊗ value y) (x.m * y.m) (x.e +ℤ y.e) bp
     (let one : 1 ≤ y.m = omega (arith, n'.low, pow_pos b) in omega (arith, n.low, mul-le-mul_left x.m one))
-    (omega (arith, ap (λ (z : ℕ). x.m * y.m * z) (simp (pow_add 2) at (powers (bal_add x.e y.e)))))
+    (omega (arith, ap (λ (z : ℕ). x.m * y.m * z) (simp (pow-add 2) at (powers (bal_add x.e y.e)))))
 
 -- the same, its last w bits cut off
 pub product_high_packs : (up : Bool) (b w : ℕ) (x y : Scaled) → 0 < b → 2 ^ b ≤ 2 * (x.m * y.m / 2 ^ w)
@@ -63,7 +63,7 @@ product_high_packs up b w x y bp l = quotient_packs up b (value x ⊗ value y) (
     bal = omega (arith, bal_add x.e y.e, bal_add (x.e +ℤ y.e) (pos w))
 
     powers_are : 2 ^ pos_part x.e * 2 ^ pos_part y.e * 2 ^ w * 2 ^ neg_part e ≡ 2 ^ pos_part e * 2 ^ neg_part x.e * 2 ^ neg_part y.e
-    powers_are = simp (pow_add 2) at (powers bal)
+    powers_are = simp (pow-add 2) at (powers bal)
 
     is : (value x ⊗ value y).num * (2 ^ w * 2 ^ neg_part e) ≡ x.m * y.m * 2 ^ pos_part e * (value x ⊗ value y).den
     is = unfold value ◌⊗◌ in omega (arith, ap (λ (z : ℕ). x.m * y.m * z) powers_are)
@@ -89,7 +89,7 @@ sum_packs up b x y g bp n e =
     bal = rw e (omega (arith, bal_add y.e (pos g)))
 
     bal_y : 2 ^ pos_part x.e * 2 ^ neg_part y.e ≡ 2 ^ pos_part y.e * 2 ^ g * 2 ^ neg_part x.e
-    bal_y = simp (pow_add 2) at (powers bal)
+    bal_y = simp (pow-add 2) at (powers bal)
 
     is : (value x ⊕ value y).num * (2 ^ g * 2 ^ neg_part x.e) ≡ (x.m * 2 ^ g + y.m) * 2 ^ pos_part x.e * (value x ⊕ value y).den
     is = unfold value ◌⊕◌ in omega (arith, ap (λ (z : ℕ). y.m * 2 ^ neg_part x.e * z) bal_y)
@@ -116,7 +116,7 @@ pub over_packs : (up : Bool) (b w : ℕ) (x : Scaled) (k : ℕ) → 0 < b → No
 over_packs up b w x k bp n kp kl = quotient_packs up b (value x ÷ k) (x.m * 2 ^ w) k (x.e -ℤ pos w) bp kp (wide b w x.m k kp kl n.low) is
   where
     bal : 2 ^ pos_part (x.e -ℤ pos w) * (2 ^ neg_part x.e * 2 ^ w) ≡ 2 ^ pos_part x.e * 2 ^ 0 * 2 ^ neg_part (x.e -ℤ pos w)
-    bal = simp (pow_add 2) at (powers (bal_diff x.e (pos w)))
+    bal = simp (pow-add 2) at (powers (bal_diff x.e (pos w)))
 
     is : (value x ÷ k).num * (k * 2 ^ neg_part (x.e -ℤ pos w)) ≡ x.m * 2 ^ w * 2 ^ pos_part (x.e -ℤ pos w) * (value x ÷ k).den
     is = unfold value ◌÷◌ in rw (suc-pred-eq_of_pos kp) (omega (arith, ap (λ (z : ℕ). x.m * k * z) bal))
@@ -139,7 +139,7 @@ per_packs up b x y bp n n' = quotient_packs up b (value x ⊘ value y) (x.m * 2 
     bal = omega (arith, bal_diff x.e y.e, bal_diff (x.e -ℤ y.e) (pos b))
 
     powers_are : 2 ^ pos_part e * 2 ^ b * 2 ^ pos_part y.e * 2 ^ neg_part x.e ≡ 2 ^ pos_part x.e * 2 ^ neg_part y.e * 2 ^ neg_part e
-    powers_are = simp (pow_add 2) at (powers bal)
+    powers_are = simp (pow-add 2) at (powers bal)
 
     is : (value x ⊘ value y).num * (y.m * 2 ^ neg_part e) ≡ x.m * 2 ^ b * 2 ^ pos_part e * (value x ⊘ value y).den
     is = unfold value ◌⊘◌ in rw (suc-pred-eq_of_pos (mul-pos yp (pow_pos (pos_part y.e)))) (omega (arith, ap (λ (z : ℕ). x.m * y.m * z) powers_are))
@@ -159,7 +159,7 @@ ratio_none up b n d z = zero_round up b (n over d) (unfold ◌over◌ in z)
 module _ (b n : ℕ) (np : 0 < n) (nl : n < 2 ^ b) where
   pub whole_normal : (t : ℕ) → size n + t ≡ b → Normal b (scaled (n * 2 ^ t) (pos 0 -ℤ pos t))
   whole_normal t e = record {
-    low = rw (← e, pow_add 2 (size n) t) (omega (arith, mul-le-mul_right (2 ^ t) (size_low n np)));
+    low = rw (← e, pow-add 2 (size n) t) (omega (arith, mul-le-mul_right (2 ^ t) (size_low n np)));
     high = rw (← e) (shl_lt (size n) t (size-lt n));
   }
 
@@ -168,7 +168,7 @@ pub shift_same : (n t : ℕ) (e : ℤ) → value (scaled (n * 2 ^ t) (e -ℤ pos
 shift_same n t e = record { eq = is }
   where
     bal : 2 ^ pos_part (e -ℤ pos t) * (2 ^ neg_part e * 2 ^ t) ≡ 2 ^ pos_part e * 2 ^ 0 * 2 ^ neg_part (e -ℤ pos t)
-    bal = simp (pow_add 2) at (powers (bal_diff e (pos t)))
+    bal = simp (pow-add 2) at (powers (bal_diff e (pos t)))
 
     is : (value (scaled (n * 2 ^ t) (e -ℤ pos t))).num * (value (scaled n e)).den ≡ (value (scaled n e)).num * (value (scaled (n * 2 ^ t) (e -ℤ pos t))).den
     is = unfold value in omega (arith, ap (λ (z : ℕ). n * z) bal)

@@ -3,13 +3,13 @@ use mathlib.Core.Path.{◌≡◌, refl, sym, ◌∙◌, ap}
 use mathlib.Core.Bool.{Bool, true, false, not, true≢false}
 use mathlib.Core.Logic.{⊎_elim}
 use Prim.Native.Nat.{ℕ, ◌+◌, ◌*◌, ◌^◌, ◌≤◌, ◌<◌}
-use native.Mathlib.Nat.{mul-le-mul_left, mul-le-mul_right, mul-lt-mul_of_pos_right, mul_one, mul-pos, le_of_lt}
+use native.Mathlib.Nat.{mul-le-mul_left, mul-le-mul_right, mul-lt-mul_of_pos_right, mul-one, mul-pos, le_of_lt}
 use native.Mathlib.Omega.{arith}
 use native.Mathlib.Decide.{ℕ_discrete}
 use borrow.Author.Tests.{le-leb, lt-leb, eq-eqb, ne_eqb}
 use lib.Dec.{leb, leb→le}
 use lib.IntN.{ℤ, pos, ◌+ℤ◌, ◌-ℤ◌}
-use lib.Pow.{pow_pos, pow_add, pow_mono}
+use lib.Pow.{pow_pos, pow-add, pow_mono}
 use Rattle.exact.specs.declared.Scaled.{Scaled}
 use Rattle.exact.specs.Integer.{pos_part, neg_part}
 use Rattle.exact.specs.Fraction.{Frac, ◌≼◌, ◌≈◌, ◌⊕◌, ◌⊗◌, ◌÷◌, whole, at_most, above}
@@ -76,7 +76,7 @@ module _ (x y : Scaled) (g : ℕ) (e : x.e ≡ y.e +ℤ pos g) where
   unfolding unit
   larger =
       let b : pos_part x.e + neg_part y.e ≡ pos_part y.e + g + neg_part x.e = rw e (omega (arith, bal_add y.e (pos g))) in
-      omega (arith, ap (λ (z : ℕ). x.m * z) (simp (pow_add 2) at (ap (λ (z : ℕ). 2 ^ z) b)))
+      omega (arith, ap (λ (z : ℕ). x.m * z) (simp (pow-add 2) at (ap (λ (z : ℕ). 2 ^ z) b)))
 
   smaller : y.m * 2 ^ pos_part y.e * 2 ^ neg_part x.e ≡ y.m * unit
   unfolding unit
@@ -103,7 +103,7 @@ pub smaller_exponent : (b : ℕ) (x y : Scaled) (g : ℕ) → Normal b x → Nor
 smaller_exponent b x y g n n' p e = below_above y x g e ∙ le-leb _ _ (le_of_lt (larger_mantissa b y.m x.m g n'.low n.high p))
 
 pub equal_exponents : (x y : Scaled) → x.e ≡ y.e +ℤ pos 0 → at_most (value x) (value y) ≡ leb x.m y.m
-equal_exponents x y e = above_below x y 0 e ∙ rw (mul_one x.m)
+equal_exponents x y e = above_below x y 0 e ∙ rw (mul-one x.m)
 
 pub zero_at_most : (x y : Scaled) → x.m ≡ 0 → at_most (value x) (value y) ≡ true
 zero_at_most x y z = at_most_yes (value x) (value y) (record { le = unfold value in rw z (omega arith) })
@@ -137,13 +137,13 @@ pub half_exact : (x : Scaled) → value (half x) ≈ value x ÷ 2
 half_exact x = by_mantissa x (x.e -ℤ pos 1) (value x ÷ 2) (λ n. unfold value ◌÷◌ in rw n (omega arith)) (unfold value ◌÷◌ in record { eq = is })
   where
     is : x.m * 2 ^ pos_part (x.e -ℤ pos 1) * (2 ^ neg_part x.e * 2) ≡ x.m * 2 ^ pos_part x.e * 2 ^ neg_part (x.e -ℤ pos 1)
-    is = omega (arith, ap (λ (z : ℕ). x.m * z) (simp (pow_add 2) at (ap (λ (z : ℕ). 2 ^ z) (bal_diff x.e (pos 1)))))
+    is = omega (arith, ap (λ (z : ℕ). x.m * z) (simp (pow-add 2) at (ap (λ (z : ℕ). 2 ^ z) (bal_diff x.e (pos 1)))))
 
 pub double_exact : (x : Scaled) → value (double x) ≈ whole 2 ⊗ value x
 double_exact x = by_mantissa x (x.e +ℤ pos 1) (whole 2 ⊗ value x) (λ n. unfold value whole ◌⊗◌ in rw n (omega arith)) (unfold value whole ◌⊗◌ in record { eq = is })
   where
     is : x.m * 2 ^ pos_part (x.e +ℤ pos 1) * (1 * 2 ^ neg_part x.e) ≡ 2 * (x.m * 2 ^ pos_part x.e) * 2 ^ neg_part (x.e +ℤ pos 1)
-    is = omega (arith, ap (λ (z : ℕ). x.m * z) (simp (pow_add 2) at (ap (λ (z : ℕ). 2 ^ z) (bal_add x.e (pos 1)))))
+    is = omega (arith, ap (λ (z : ℕ). x.m * z) (simp (pow-add 2) at (ap (λ (z : ℕ). 2 ^ z) (bal_add x.e (pos 1)))))
 
 -- a sum with a double
 pub sum_double : (up : Bool) (b : ℕ) (x y : Scaled) → 0 < b → round up b (value x ⊕ whole 2 ⊗ value y) ≡ round up b (value x ⊕ value (double y))

@@ -9,7 +9,7 @@ use native.Mathlib.Omega.{arith}
 use lib.Dec.{ltb, eqb, T, eqb→eq}
 use borrow.Author.Tests.{eqb-false, eq-eqb, ne_eqb}
 use lib.IntN.{ℤ, pos, sub_ℕ, ◌+ℤ◌}
-use lib.Pow.{pow_pos, pow_add, shr_lt}
+use lib.Pow.{pow_pos, pow-add, shr_lt}
 use lib.Ieee.{size}
 use lib.Ieee.Digits.{size-lt, size_reaches}
 use Rattle.exact.specs.declared.Scaled.{Scaled}
@@ -51,7 +51,7 @@ unfolding finish
 next_is b m j k l h = go (eqb (suc m) (2 ^ b)) (eqb→eq (suc m) (2 ^ b)) (eqb-false (suc m) (2 ^ b))
   where
     top : suc m ≡ 2 ^ b → point (2 ^ b / 2) (j + 1) k ≈ point (suc m) j k
-    top e = unfold point in record { eq = rw (pow_add 2 j 1) (omega (arith, ap (λ (x : ℕ). x * (2 ^ j * 2 ^ k)) (even b m l h ∙ sym e))) }
+    top e = unfold point in record { eq = rw (pow-add 2 j 1) (omega (arith, ap (λ (x : ℕ). x * (2 ^ j * 2 ^ k)) (even b m l h ∙ sym e))) }
 
     go : (t : Bool) → (T t → suc m ≡ 2 ^ b) → (t ≡ false → suc m ≡ 2 ^ b → ⊥) → Is b (cond t (scaled (2 ^ b / 2) (sub_ℕ j k +ℤ pos 1)) (scaled (suc m) (sub_ℕ j k))) (point (suc m) j k)
     go true f g =
@@ -105,7 +105,7 @@ module _ (b h : ℕ) (bp : 0 < b) (l : 2 ^ b ≤ 2 * h) where
   top_low =
       let g = bits in
       let r : 2 ^ (size h - 1) ≤ h = size_reaches h (size h - 1) (omega arith) in
-      let e : 2 ^ (b - 1) * 2 ^ (size h - b) ≡ 2 ^ (size h - 1) = sym (pow_add 2 (b - 1) (size h - b)) ∙ ap (λ (x : ℕ). 2 ^ x) (omega arith) in
+      let e : 2 ^ (b - 1) * 2 ^ (size h - b) ≡ 2 ^ (size h - 1) = sym (pow-add 2 (b - 1) (size h - b)) ∙ ap (λ (x : ℕ). 2 ^ x) (omega arith) in
       let k : 2 ^ (b - 1) ≤ h / 2 ^ (size h - b) = (le-div_iff_mul-le (pow_pos (size h - b))).1 (le_trans (le_of_eq e) r) in
       let t : 2 ^ b ≡ 2 * 2 ^ (b - 1) = ap (λ (x : ℕ). 2 ^ x) (omega arith) ∙ pow-succ' 2 (b - 1) in
       omega arith

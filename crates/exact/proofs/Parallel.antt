@@ -9,7 +9,6 @@ use Rattle.exact.specs.Fraction.{Frac, ◌≼◌, ◌≈◌, ◌⊕◌, ◌⊗�
 use Rattle.exact.specs.Scaled.{value}
 use Rattle.exact.specs.Private.Round.{round}
 use Rattle.exact.specs.Arithmetic.{Arithmetic, unrounded, rounded}
-use Rattle.exact.specs.Series.{u, g}
 use Rattle.exact.specs.Steps.{LettersOf, TermsOf, PowersOf, letters, start, first, next_c, next_p, next_v, next_y, next, terms, bound, next_d, tail_term, next_power, powers}
 use Rattle.exact.proofs.Fractions.{≼_refl, ≼_trans, ≼_of, ≽_of, ≈_refl, add_mono, mul_mono, div_mono}
 use Rattle.exact.proofs.Order.{half_exact}

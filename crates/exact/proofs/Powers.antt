@@ -1,6 +1,6 @@
 -- Powers of a fraction, and p ≼ q × ρ^w: p is at most q, but for w factors ρ.
 use Prim.Native.Nat.{ℕ, zero, suc, ◌+◌, ◌≤◌}
-use native.Mathlib.Nat.{le_dest, add-suc, suc-add, zero_add as zero_plus}
+use native.Mathlib.Nat.{le_dest, add-suc, suc-add, zero-add as zero_plus}
 use native.Mathlib.Omega.{arith}
 use Rattle.exact.specs.Fraction.{Frac, ◌≼◌, ◌≈◌, ◌⊕◌, ◌⊗◌, ◌÷◌, ◌↑◌, whole}
 use Rattle.exact.proofs.Fractions.{≼_refl, ≼_trans, ≽_of, add_mono, mul_mono, div_mono, ≈_refl, ≈_sym, cong, one_mul, mul_assoc}

@@ -3,7 +3,7 @@ use mathlib.Core.Path.{◌≡◌, refl, ap}
 use mathlib.Core.Bool.{Bool, true, false, cond, ◌&&◌}
 use mathlib.Core.Logic.{inl, inr, ⊎_elim}
 use Prim.Native.Nat.{ℕ, zero, suc, ◌+◌, ◌-◌, ◌*◌, ◌/◌, ◌%◌, ◌^◌, ◌≤◌, ◌<◌, zero-le}
-use native.Mathlib.Nat.{le_trans, lt_of_le_of_lt, lt_of_lt_of_le, mul-le-mul_left, div-le_self, eq-zero-or-pos, le_of_lt, zero-mul, mul_zero, suc-pred-eq_of_pos}
+use native.Mathlib.Nat.{le_trans, lt_of_le_of_lt, lt_of_lt_of_le, mul-le-mul_left, div-le_self, eq-zero-or-pos, le_of_lt, zero-mul, mul-zero, suc-pred-eq_of_pos}
 use native.Mathlib.Numerals.{add-one}
 use native.Mathlib.Omega.{arith}
 use lib.Dec.{ltb, eqb, lit≤}
@@ -83,7 +83,7 @@ module _ (up : Bool) (b : ℕ) (bp : 0 < b) where
     where
       go : IsScaled b x → IsScaled b y → InRange b (A + B + b + 1) (round up b (value x ⊗ value y))
       go (inl z) n' = rw (product_none up b x y (rw (mantissa z) (zero-mul y.m))) (nought_range b (A + B + b + 1))
-      go (inr n) (inl z) = rw (product_none up b x y (rw (mantissa z) (mul_zero x.m))) (nought_range b (A + B + b + 1))
+      go (inr n) (inl z) = rw (product_none up b x y (rw (mantissa z) (mul-zero x.m))) (nought_range b (A + B + b + 1))
       go (inr n) (inr n') =
           packed_range b (A + B + b) bp (product_packs up b x y bp n n') (below_square b x.m y.m n.high n'.high)
           (omega (arith, h.above, k.above, pos_add (x.e +ℤ y.e) (pos b), pos_add x.e y.e, neg_add x.e y.e))

@@ -1,13 +1,13 @@
 -- `round` is the rounding that `IsRound` describes, in both directions and at any number of bits, and it is the only one. The laws of D and U, once each.
 use mathlib.Core.Path.{◌≡◌, refl, sym, ◌∙◌, ap}
-use mathlib.Core.Bool.{Bool, true, false, not, ◌&&◌, true≢false}
+use mathlib.Core.Bool.{Bool, true, false, ◌&&◌, true≢false}
 use mathlib.Core.Logic.{inl, inr, ⊎_elim}
 use Prim.Native.Nat.{ℕ, suc, ◌+◌, ◌-◌, ◌*◌, ◌/◌, ◌^◌, ◌≤◌, ◌<◌}
 use native.Mathlib.Nat.{le_trans, le_of_eq, le_of_lt, mul-le-mul, mul-le-mul_left, mul-le-mul_right, mul-lt-mul_of_pos_right, mul-pos, zero-mul, zero-div, le-div_iff_mul-le, eq-zero-or-pos, eq_of_mul-eq-mul_right, pow-succ', suc-pred-eq_of_pos}
 use native.Mathlib.Omega.{arith}
 use borrow.Author.Tests.{eq-eqb, ne_eqb, eqb-true, not-false}
-use lib.IntN.{ℤ, pos, sub_ℕ}
-use lib.Pow.{pow_pos, pow_add, pow_mono}
+use lib.IntN.{ℤ, sub_ℕ}
+use lib.Pow.{pow_pos, pow-add, pow_mono}
 use lib.Ieee.{size}
 use lib.Ieee.Digits.{size-lt}
 use Rattle.exact.specs.declared.Scaled.{Scaled}
@@ -36,7 +36,7 @@ zero_is true b q z = record { is_scaled = inl refl; side = record { le = omega (
 enough : (b n d : ℕ) → 0 < b → 0 < n → 0 < d → 2 ^ b ≤ 2 * (n * 2 ^ (b + size d) / (d * 2 ^ size n))
 enough b n d bp np dp =
     let t : 2 ^ b ≡ 2 * 2 ^ (b - 1) = ap (λ (x : ℕ). 2 ^ x) (omega arith) ∙ pow-succ' 2 (b - 1) in
-    let w : 2 ^ (b + size d) ≡ 2 ^ b * 2 ^ size d = pow_add 2 b (size d) in
+    let w : 2 ^ (b + size d) ≡ 2 ^ b * 2 ^ size d = pow-add 2 b (size d) in
     let k : 2 ^ (b - 1) ≤ n * 2 ^ (b + size d) / (d * 2 ^ size n) =
     (le-div_iff_mul-le (mul-pos dp (pow_pos (size n)))).1
     (rw (w, t) (omega (arith, mul-le-mul_left (2 ^ (b - 1)) (mul-le-mul (size_low n np) (le_of_lt (size-lt d)))))) in
@@ -73,7 +73,7 @@ unfolding value
 same_normal b x y n n' h =
     let A = pos_part x.e + neg_part y.e in
     let B = pos_part y.e + neg_part x.e in
-    let s : x.m * 2 ^ A ≡ y.m * 2 ^ B = rw (pow_add 2 (pos_part x.e) (neg_part y.e), pow_add 2 (pos_part y.e) (neg_part x.e)) (omega (arith, h.eq)) in
+    let s : x.m * 2 ^ A ≡ y.m * 2 ^ B = rw (pow-add 2 (pos_part x.e) (neg_part y.e), pow-add 2 (pos_part y.e) (neg_part x.e)) (omega (arith, h.eq)) in
     let ab : A ≤ B = exponents b y.m x.m B A n.low n'.high (le_of_eq s) in
     let ba : B ≤ A = exponents b x.m y.m A B n'.low n.high (le_of_eq (sym s)) in
     let e : A ≡ B = omega arith in

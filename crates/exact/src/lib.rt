@@ -1,5 +1,7 @@
 // The scaled number of document 01, with the constants and the constructor that belong to it, a scaled number with whether something was lost on its way, the five inputs of an encounter, a conjunction, a decimal, a window, and the paper's limits.
 // All else in this crate is definitions (specs/) and theorems (proofs/).
+#![tactic(auto)]
+
 ghost use Rattle.std.specs.Prelude.{◌≡◌, false, ◌^◌, ◌<◌, pos, ◌-ℤ◌};
 ghost use Rattle.exact.specs.Fraction.{◌≈◌, whole as whole_number};
 ghost use Rattle.exact.specs.Scaled.{value};
@@ -26,7 +28,7 @@ pub const MOST_WINDOWS: usize = 64;
 
 // "Inputs are whole centimetres: combined radius R, larger standard deviation sx, smaller sy, mean miss xm and ym."
 #[repr(C)]
-#[derive(Drop)]
+#[derive(Clone, Copy)]
 pub struct Encounter {
     pub R: u32,
     pub sx: u32,
@@ -37,7 +39,7 @@ pub struct Encounter {
 
 // Request #104: an encounter with an object number and a time of closest approach, "both unsigned 32-bit, the time in minutes from the epoch that the site chooses."
 #[repr(C)]
-#[derive(Drop)]
+#[derive(Clone, Copy)]
 pub struct Conjunction {
     pub encounter: Encounter,
     pub object: u32,
@@ -46,14 +48,14 @@ pub struct Conjunction {
 
 // m × 2^e: "e is a signed 32-bit number."
 #[repr(C)]
-#[derive(Drop)]
+#[derive(Clone, Copy)]
 pub struct Scaled {
     pub m: u32,
     pub e: i32,
 }
 
 // Request #105: a number, and whether something was lost on its way.
-#[derive(Drop)]
+#[derive(Clone, Copy)]
 pub struct Traced {
     pub number: Scaled,
     pub lost: bool,
@@ -61,7 +63,7 @@ pub struct Traced {
 
 // d.ddd × 10^-power, where digits is dddd.
 #[repr(C)]
-#[derive(Drop)]
+#[derive(Clone, Copy)]
 pub struct Decimal {
     pub digits: u32,
     pub power: u32,
@@ -69,7 +71,7 @@ pub struct Decimal {
 
 // Request #112: a quiet window, "an opening minute and a closing minute, the closing one not included".
 #[repr(C)]
-#[derive(Drop)]
+#[derive(Clone, Copy)]
 pub struct Window {
     pub opening: u32,
     pub closing: u32,

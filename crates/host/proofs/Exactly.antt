@@ -5,7 +5,7 @@ use Prim.Native.Nat.{ℕ, ◌+◌, ◌*◌, ◌^◌, ◌≤◌, ◌<◌}
 use native.Mathlib.Nat.{mul_assoc, lt_of_lt_of_le}
 use native.Mathlib.Omega.{arith}
 use lib.Dec.{T}
-use lib.Pow.{pow_add, pow_pos, pow_mono, shl_lt}
+use lib.Pow.{pow-add, pow_pos, pow_mono, shl_lt}
 use mir.Facts.{to_z-of_z}
 use mir.Syntax.{w32}
 use mir.Val.{to_z, of_z}
@@ -27,7 +27,7 @@ use Rattle.host.proofs.Shifted.{in_fits}
 balance : (m p n l b k : ℕ) → p + l ≡ b + (k + n) → m * 2 ^ p * 2 ^ l ≡ m * 2 ^ b * 2 ^ k * 2 ^ n
 balance m p n l b k h =
     mul_assoc m (2 ^ p) (2 ^ l)
-    ∙ ap (λ (y : ℕ). m * y) (sym (pow_add 2 p l) ∙ ap (λ (y : ℕ). 2 ^ y) h ∙ pow_add 2 b (k + n) ∙ ap (λ (y : ℕ). 2 ^ b * y) (pow_add 2 k n))
+    ∙ ap (λ (y : ℕ). m * y) (sym (pow-add 2 p l) ∙ ap (λ (y : ℕ). 2 ^ y) h ∙ pow-add 2 b (k + n) ∙ ap (λ (y : ℕ). 2 ^ b * y) (pow-add 2 k n))
     ∙ sym (mul_assoc m (2 ^ b) (2 ^ k * 2 ^ n))
     ∙ sym (mul_assoc (m * 2 ^ b) (2 ^ k) (2 ^ n))
 

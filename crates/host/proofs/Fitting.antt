@@ -7,7 +7,7 @@ use Prim.Native.Nat.{ℕ, suc, ◌+◌, ◌*◌, ◌^◌, ◌≤◌, ◌<◌}
 use native.Mathlib.Nat.{mul-le-mul, mul-le-mul_right, le_trans, le_of_lt, le_of_eq, pow-suc}
 use native.Mathlib.Omega.{arith}
 use lib.Dec.{lit<, lit≤}
-use lib.Pow.{pow_add, pow_pos, pow_mono}
+use lib.Pow.{pow-add, pow_pos, pow_mono}
 use lib.IntN.{ℤ, pos, negsuc}
 use Rattle.exact.specs.declared.Encounter.{Encounter}
 use Rattle.exact.specs.declared.Scaled.{Scaled}
@@ -38,7 +38,7 @@ exponent_le i k h =
 
 -- w is 10^43
 from_below : (w k m n : ℕ) → w ≤ 2 ^ k → m < 2 ^ 32 → 8 * (2 ^ n * 1) ≤ m * 1 * w * 1 → n ≤ 32 + k
-from_below w k m n b h l = exponent_le n (32 + k) (le_trans some (le_trans (mul-le-mul (le_of_lt h) b) (le_of_eq (sym (pow_add 2 32 k)))))
+from_below w k m n b h l = exponent_le n (32 + k) (le_trans some (le_trans (mul-le-mul (le_of_lt h) b) (le_of_eq (sym (pow-add 2 32 k)))))
   where
     some : 2 ^ n ≤ m * w
     some = omega (arith, l)

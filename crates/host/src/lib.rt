@@ -12,7 +12,7 @@ use crate::double::{double_of, one_or_more};
 use encounter::calls::read;
 use encounter::state::{Answer, Session};
 
-#[derive(Drop)]
+#[derive(Clone, Copy)]
 pub enum Doubles {
     // The lower end and the upper end, which is below 1.
     Both(f64, f64),
@@ -24,7 +24,7 @@ pub enum Doubles {
 
 // The object number, both ends and their difference.
 #[repr(C)]
-#[derive(Drop)]
+#[derive(Clone, Copy)]
 pub struct PlotRecord {
     pub object: u32,
     pub lower: f64,
@@ -32,7 +32,7 @@ pub struct PlotRecord {
     pub difference: f64,
 }
 
-#[derive(Drop)]
+#[derive(Clone, Copy)]
 pub enum Plotted {
     // The record, where the upper end is below 1.
     Record(PlotRecord),

@@ -41,7 +41,7 @@ pub const VERSION: u32 = 12;
 
 // An answer, with its class as a number.
 #[repr(C)]
-#[derive(Drop)]
+#[derive(Clone, Copy)]
 pub struct Answer {
     pub refusal: u32,
     pub N: u32,
@@ -55,7 +55,7 @@ pub struct Answer {
 
 // The refusal's number, or 0; then the advised order, or 0 where there is none.
 #[repr(C)]
-#[derive(Drop)]
+#[derive(Clone, Copy)]
 pub struct Advice {
     pub refusal: u32,
     pub order: u32,
@@ -63,7 +63,7 @@ pub struct Advice {
 
 // The refusal's number, or 0; the tag; then the ends, each 0 where it is not there.
 #[repr(C)]
-#[derive(Drop)]
+#[derive(Clone, Copy)]
 pub struct Doubles {
     pub refusal: u32,
     pub tag: u32,
@@ -73,7 +73,7 @@ pub struct Doubles {
 
 // The refusal's number, or 0; the tag; then the record, with 0 in every field where there is none.
 #[repr(C)]
-#[derive(Drop)]
+#[derive(Clone, Copy)]
 pub struct Plotted {
     pub refusal: u32,
     pub tag: u32,
@@ -82,21 +82,21 @@ pub struct Plotted {
 
 // The places of a day.
 #[repr(C)]
-#[derive(Drop)]
+#[derive(Clone, Copy)]
 pub struct Day {
     pub places: [Bracket; PLACES_A_DAY],
 }
 
 // The days of a week: a function for other languages takes and answers no array by value.
 #[repr(C)]
-#[derive(Drop)]
+#[derive(Clone, Copy)]
 pub struct Week {
     pub days: [Day; DAYS_A_WEEK],
 }
 
 // The refusal's number, or 0; then the week, which is as it was where it is refused.
 #[repr(C)]
-#[derive(Drop)]
+#[derive(Clone, Copy)]
 pub struct Entered {
     pub refusal: u32,
     pub week: Week,
@@ -104,7 +104,7 @@ pub struct Entered {
 
 // The refusal's number, or 0; found is 1 where there is a minute, and 0 where there is none; then the minute, or 0.
 #[repr(C)]
-#[derive(Drop)]
+#[derive(Clone, Copy)]
 pub struct Burn {
     pub refusal: u32,
     pub found: u32,
@@ -112,7 +112,7 @@ pub struct Burn {
 }
 
 // The answer of a call, and the session after it.
-#[derive(Drop)]
+#[derive(Clone, Copy)]
 pub struct Called {
     pub answer: Answer,
     pub session: Session,
@@ -120,7 +120,7 @@ pub struct Called {
 
 // The bytes of the buffer that are used, and whether they are the whole listing.
 #[repr(C)]
-#[derive(Drop)]
+#[derive(Clone, Copy)]
 pub struct Listing {
     pub used: usize,
     pub ended: bool,

@@ -3,7 +3,7 @@ use Prim.Native.Nat.{ℕ, suc, ◌+◌, ◌≤◌, ◌<◌}
 use mathlib.Core.Path.{◌≡◌, refl, sym, ◌∙◌, ap, subst}
 use mathlib.Core.List.{List, [], ◌∷◌, ◌++◌, append_assoc, append-nil}
 use native.Mathlib.Omega.{arith}
-use native.Mathlib.Nat.{add_zero}
+use native.Mathlib.Nat.{add-zero}
 use native.Mathlib.Numerals.{add-one}
 use lib.ListN.{length, take, drop, set, get_or, length-set, length-append}
 use lib.Seq.{take-suc, take-suc-set, take-length, drop-drop, drop-set-lt}
@@ -22,7 +22,7 @@ pub record Half (out₀ out : List ℕ) (at : ℕ) (text : List ℕ) (i : ℕ) :
 
 pub half_start : (out : List ℕ) (at : ℕ) (text : List ℕ) → at + length text ≤ length out → Half out out at text 0
 half_start out at text h =
-    record { is = rw (add_zero, append-nil) refl; rest = refl; same = refl; room = h; within = omega arith }
+    record { is = rw (add-zero, append-nil) refl; rest = refl; same = refl; room = h; within = omega arith }
 
 pub half_on :
     (out₀ out : List ℕ) (at : ℕ) (text : List ℕ) (i : ℕ) →

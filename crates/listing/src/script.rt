@@ -9,7 +9,7 @@ use encounter::state::{Answer, Session};
 use records::take_record;
 
 // The bytes of the buffer that are used, the next position and the session there, and whether the listing is at its end.
-#[derive(Drop)]
+#[derive(Clone, Copy)]
 pub struct Piece {
     pub used: usize,
     pub next: usize,

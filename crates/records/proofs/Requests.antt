@@ -4,7 +4,7 @@ use mathlib.Core.Bool.{true}
 use mathlib.Core.List.{List}
 use Prim.Native.Nat.{ℕ, zero, suc, ◌+◌, ◌-◌, ◌≤◌, ◌<◌}
 use native.Mathlib.Omega.{arith}
-use native.Mathlib.Nat.{zero_add}
+use native.Mathlib.Nat.{zero-add}
 use borrow.Author.Tests.{lt-ltb, le-ltb, le-leb, lt-leb, ne_eqb}
 use borrow.Author.Rules.{sfits_of}
 use lib.ListN.{length, get_or}
@@ -28,7 +28,7 @@ use Rattle.records.specs.RecordCall.{next_at, record_call}
 
 minus : (n : ℕ) → negsuc 0 -ℤ pos n ≡ negsuc n
 minus zero = refl
-minus (suc n) = ap (λ (k : ℕ). negsuc (suc k)) (zero_add n)
+minus (suc n) = ap (λ (k : ℕ). negsuc (suc k)) (zero-add n)
 
 pub below : (x : ℕ) → 2147483648 ≤ x → negsuc 0 -ℤ to_z w32 (4294967295 - x) ≡ negsuc (4294967295 - x)
 below x h = rw (to_z_pos w32 (4294967295 - x) (omega arith), minus)

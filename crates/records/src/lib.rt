@@ -14,7 +14,7 @@ use encounter::state::{Answer, Called, Session};
 use exact::{Conjunction, Encounter};
 
 // What a record's call answers, the position of the next record, and the session after it.
-#[derive(Drop)]
+#[derive(Clone, Copy)]
 pub struct Taken {
     pub answer: Answer,
     pub next: usize,

@@ -13,14 +13,14 @@ pub const KEPT: usize = LARGEST_SCRIPT + 1;
 const TRIES: u32 = 1000000;
 
 // What reading came to: how many bytes were put at the buffer's start, or a failure.
-#[derive(Drop)]
+#[derive(Clone, Copy)]
 pub enum Input {
     Bytes(usize),
     Failed,
 }
 
 // What writing came to: how many bytes were handed over in all, or a failure.
-#[derive(Drop)]
+#[derive(Clone, Copy)]
 pub enum Output {
     Written(usize),
     Failed,

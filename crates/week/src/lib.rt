@@ -14,7 +14,7 @@ use exact::{DAYS_A_WEEK, PLACES_A_DAY, Scaled};
 
 // A place: held is 1 where it has the two ends of a read; in an empty place all is 0.
 #[repr(C)]
-#[derive(Drop)]
+#[derive(Clone, Copy)]
 pub struct Bracket {
     pub held: u32,
     pub lower: Scaled,
@@ -23,7 +23,7 @@ pub struct Bracket {
 
 // The week's two ends.
 #[repr(C)]
-#[derive(Drop)]
+#[derive(Clone, Copy)]
 pub struct Ends {
     pub lower: Scaled,
     pub upper: Scaled,

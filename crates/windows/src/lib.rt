@@ -7,7 +7,7 @@ ghost use Rattle.windows.specs.Private.Place.{window_at};
 
 use exact::{MOST_WINDOWS, Window};
 
-#[derive(Drop)]
+#[derive(Clone, Copy)]
 pub enum Burn {
     // The latest minute that lies in a window and is at or before the time less the lead.
     Minute(u32),

@@ -8,7 +8,7 @@ use lib.Dec.{ltb, lit<}
 use lib.IntN.{ℤ, pos, ◌-ℤ◌}
 use lib.Ieee.{size}
 use lib.Ieee.Digits.{size-le}
-use lib.Pow.{pow_add}
+use lib.Pow.{pow-add}
 use Rattle.exact.specs.Fraction.{◌over◌}
 use Rattle.exact.specs.Integer.{pos_part, neg_part}
 use Rattle.exact.specs.Scaled.{scaled, Normal}
@@ -36,7 +36,7 @@ module _ (n d s t k : ℕ) (dp : 0 < d) (dl : d < 2 ^ 48) (s-is : s ≡ size d) 
   powers : 2 ^ neg_part e * 2 ^ (48 - s) ≡ 2 ^ pos_part e * 2 ^ t * 2 ^ 16
   powers =
       let b : neg_part e + (48 - s) ≡ pos_part e + t + 16 = omega (arith, bal_diff (pos 32) (pos (s + t)), few) in
-      simp (pow_add 2) at (ap (λ (x : ℕ). 2 ^ x) b)
+      simp (pow-add 2) at (ap (λ (x : ℕ). 2 ^ x) b)
 
   is : n * (k * 2 ^ neg_part e) ≡ n * 2 ^ t * 65536 * 2 ^ pos_part e * d
   is = rw k-is (omega (arith, ap (λ (x : ℕ). n * d * x) powers))

@@ -1,6 +1,6 @@
 -- The class of two ends by cases, that of an accepted read, and two reads of one encounter.
 use mathlib.Core.Path.{◌≡◌, refl, sym, ◌∙◌, ap}
-use mathlib.Core.Bool.{Bool, true, false, not, ◌&&◌, false≢true, not_not}
+use mathlib.Core.Bool.{Bool, true, false, not, ◌&&◌, false≢true, not-not}
 use Prim.Native.Nat.{ℕ, ◌+◌, ◌≤◌}
 use native.Mathlib.Omega.{arith}
 use Rattle.exact.specs.declared.Conjunction.{Conjunction}
@@ -29,7 +29,7 @@ unfolding clear above alert
 clear_is p = refl
 
 alert_is : (p : Frac) → alert p ≡ not (clear p)
-alert_is p = sym (not_not (alert p)) ∙ ap not (sym (clear_is p))
+alert_is p = sym (not-not (alert p)) ∙ ap not (sym (clear_is p))
 
 module _ (x y : Scaled) where
   pub is_alert : alert (value x) ≡ true → Alert ≡ class_of x y

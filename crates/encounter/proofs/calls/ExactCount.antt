@@ -2,7 +2,7 @@
 use mathlib.Core.Path.{◌≡◌}
 use mathlib.Core.Bool.{true}
 use Prim.Native.Nat.{ℕ, zero, suc, ◌+◌, ◌≤◌, ◌<◌}
-use native.Mathlib.Nat.{add_zero, add-suc, le_dest, lt_of_le_of_lt}
+use native.Mathlib.Nat.{add-zero, add-suc, le_dest, lt_of_le_of_lt}
 use Rattle.exact.specs.declared.Encounter.{Encounter}
 use Rattle.exact.specs.Losses.{either_lost, exact_terms}
 use Rattle.exact.proofs.Losses.{exact_le, counted_are, first_lost, ways_grow, exact_term_is}
@@ -15,7 +15,7 @@ use Rattle.encounter.proofs.calls.AcceptedReads.{read_of}
 module _ (E : Encounter) where
   -- what is lost on a term's way is lost on those of all after it
   lost_after : (n j : ℕ) → either_lost E n ≡ true → either_lost E (n + j) ≡ true
-  lost_after n zero h = rw add_zero h
+  lost_after n zero h = rw add-zero h
   lost_after n (suc j) h = rw add-suc (ways_grow E (n + j) (lost_after n j h))
 
   others_lost : (N n : ℕ) → exact_terms E N ≤ n → n < N → either_lost E n ≡ true

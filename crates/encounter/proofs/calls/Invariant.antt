@@ -4,7 +4,7 @@ use mathlib.Core.Bool.{false}
 use mathlib.Core.List.{List, [], ◌∷◌}
 use Prim.Native.Nat.{ℕ, suc, ◌+◌, ◌≤◌, ◌<◌}
 use mathlib.Core.Logic.{⊎_elim}
-use native.Mathlib.Nat.{eq-zero-or-pos, add_zero}
+use native.Mathlib.Nat.{eq-zero-or-pos, add-zero}
 use native.Mathlib.Omega.{arith}
 use borrow.Author.Tests.{ltb-false, ne_eqb}
 use Rattle.exact.specs.declared.Conjunction.{Conjunction}
@@ -144,7 +144,7 @@ led_to s r z count l = ⊎_elim none some (eq-zero-or-pos count)
   where
     none : count ≡ 0 → (call (adds count) s).session ≡ state (conjunction_of s) (s.N + count)
     none e =
-        ap (λ (c : Called). c.session) (sym (add_12 s count e refl)) ∙ (begun s r z).is ∙ rw (e, add_zero)
+        ap (λ (c : Called). c.session) (sym (add_12 s count e refl)) ∙ (begun s r z).is ∙ rw (e, add-zero)
 
     some : 0 < count → (call (adds count) s).session ≡ state (conjunction_of s) (s.N + count)
     some p = ap (λ (c : Called). c.session) (sym (add_taken s count (λ e. omega arith) z l refl refl))

@@ -7,7 +7,7 @@ use native.Mathlib.Nat.{le_trans, lt_of_le_of_lt, mul-le-mul_right, mul-lt-mul_o
 use native.Mathlib.Omega.{arith}
 use lib.Dec.{T, leb, leb→le, lit<, lit≤}
 use lib.IntN.{pos}
-use lib.Pow.{pow_add, pow_mono, pow_pos}
+use lib.Pow.{pow-add, pow_mono, pow_pos}
 use Rattle.exact.specs.declared.Scaled.{Scaled}
 use Rattle.exact.specs.Integer.{pos_part, neg_part}
 use Rattle.exact.specs.Fraction.{Frac, ◌≼◌, ◌⊗◌, whole}
@@ -32,7 +32,7 @@ use Rattle.encounter.proofs.decimals.Wholes.{flat}
 pub below_power : (x : Scaled) (s : ℕ) → x.m < 2 ^ 32 → pos_part x.e ≡ 0 → s + 32 ≤ neg_part x.e → value x ⊗ whole (2 ^ s) ≺ whole 1
 unfolding value whole ◌⊗◌
 below_power x s h z l =
-    let w : 2 ^ s * 2 ^ 32 ≤ 2 ^ neg_part x.e = rw (← pow_add 2 s 32) (pow_mono l) in
+    let w : 2 ^ s * 2 ^ 32 ≤ 2 ^ neg_part x.e = rw (← pow-add 2 s 32) (pow_mono l) in
     record { lt = rw z (omega (arith, w, mul-lt-mul_of_pos_right h (pow_pos s))) }
 
 pub unit : {q : Frac} → q ⊗ whole (2 ^ 0) ≺ whole 1 → q ≺ whole 1

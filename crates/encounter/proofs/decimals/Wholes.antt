@@ -2,7 +2,7 @@
 use mathlib.Core.Path.{◌≡◌, refl, sym, ap, ◌∙◌}
 use mathlib.Core.Logic.{⊎_elim}
 use Prim.Native.Nat.{ℕ, ◌*◌, ◌/◌, ◌^◌, ◌≤◌, ◌<◌}
-use native.Mathlib.Nat.{mul_one, div-eq_of_lt, lt_of_lt_of_le, mul-le-mul_left}
+use native.Mathlib.Nat.{mul-one, div-eq_of_lt, lt_of_lt_of_le, mul-le-mul_left}
 use native.Mathlib.Omega.{arith}
 use lib.IntN.{ℤ, pos, negsuc, ◌-ℤ◌}
 use lib.Pow.{pow_pos, pow_mono}
@@ -21,7 +21,7 @@ depth (negsuc n) = omega (arith, pos_diff (pos 0) (negsuc n))
 
 floor_is : (p : Scaled) → pos_part p.e ≡ 0 → floor (value p) ≡ p.m / 2 ^ neg_part p.e
 unfolding floor value
-floor_is p z = rw (z, mul_one p.m)
+floor_is p z = rw (z, mul-one p.m)
 
 module _ (p : Scaled) (n : ℕ) (z : pos_part p.e ≡ 0) (e : n ≡ pos_part (pos 0 -ℤ p.e)) where
   pub part : p.m / 2 ^ n ≡ floor (value p)

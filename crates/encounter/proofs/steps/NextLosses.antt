@@ -1,6 +1,6 @@
 -- An encounter's next terms and their losses, where nothing was lost before.
 use mathlib.Core.Path.{◌≡◌, sym, ◌∙◌, ap, subst}
-use mathlib.Core.Bool.{Bool, true, false, not, ◌||◌, not_not}
+use mathlib.Core.Bool.{Bool, true, false, not, ◌||◌, not-not}
 use Prim.Native.Nat.{ℕ, suc}
 use borrow.Author.Tests.{not-true}
 use Rattle.exact.specs.declared.Encounter.{Encounter}
@@ -74,4 +74,4 @@ module _ (E : Encounter) (n : ℕ) {l₀ l₁ : Letters} {t₀ t₁ : Terms} whe
       let (o₀, o₁) = neither _ _ (not-true _ h) in
       let (x₀, y₀) = side_losses_are false E n p₀ q₀ o₀ k₀ in
       let (x₁, y₁) = side_losses_are true E n p₁ q₁ o₁ k₁ in
-      (rw (e.0, x₀, x₁), rw (e.1, y₀, y₁) (sym (not_not _)))
+      (rw (e.0, x₀, x₁), rw (e.1, y₀, y₁) (sym (not-not _)))

@@ -1,6 +1,6 @@
 -- What a begin forms, and that it is the session at order 1.
 use mathlib.Core.Path.{◌≡◌, sym, ◌∙◌, ap, subst}
-use mathlib.Core.Bool.{Bool, true, false, cond, not, ◌||◌, not_not}
+use mathlib.Core.Bool.{Bool, true, false, cond, not, ◌||◌, not-not}
 use Prim.Native.Nat.{ℕ}
 use Rattle.exact.specs.declared.Scaled.{Scaled}
 use Rattle.exact.specs.declared.Traced.{Traced}
@@ -112,7 +112,7 @@ pub either_are : (E : Encounter) {lo hi : OpenSide} {l : Losses} → Opened fals
     → (l.term ≡ (lo.losses.term || hi.losses.term)) × (l.operand ≡ (lo.losses.operand || hi.losses.operand))
     → (l.term ≡ either_lost E 0) × (l.operand ≡ not (lossless E 1))
 unfolding either_lost lossless
-either_are E a b e = (rw (e.0, a.1, b.1), rw (e.1, a.2, b.2) (sym (not_not _)))
+either_are E a b e = (rw (e.0, a.1, b.1), rw (e.1, a.2, b.2) (sym (not-not _)))
 
 -- ---- the session
 

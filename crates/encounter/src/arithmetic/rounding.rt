@@ -8,7 +8,7 @@ use crate::arithmetic::exponent::raised;
 use crate::arithmetic::wide::{Rounded, Wide};
 
 // A whole number, and whether a rest was left in forming it.
-#[derive(Drop)]
+#[derive(Clone, Copy)]
 pub struct Whole {
     pub part: u64,
     pub rest: bool,

@@ -11,14 +11,14 @@ use crate::arithmetic::rounding::{Whole, bits, divided, fit, followed};
 use exact::Scaled;
 
 // m × 2^e.
-#[derive(Drop)]
+#[derive(Clone, Copy)]
 pub struct Wide {
     pub m: u64,
     pub e: i64,
 }
 
 // A rounded number, and whether its rounding lost anything (request #105).
-#[derive(Drop)]
+#[derive(Clone, Copy)]
 pub struct Rounded {
     pub number: Wide,
     pub lost: bool,
@@ -146,7 +146,7 @@ pub fn over(up: bool, a: Wide, k: u64) -> Rounded
 }
 
 // What a division by k has in common with every other by k.
-#[derive(Drop)]
+#[derive(Clone, Copy)]
 pub struct Reciprocal {
     pub k: u64,
     pub bits: u64,

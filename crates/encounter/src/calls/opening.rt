@@ -18,7 +18,7 @@ use crate::steps::terms::first_tail;
 use exact::{Encounter, Scaled};
 
 // A side at order 1, and its losses.
-#[derive(Drop)]
+#[derive(Clone, Copy)]
 struct OpenSide {
     side: Side,
     losses: Losses,
@@ -44,7 +44,7 @@ fn open_side(up: bool, E: Encounter, l: TracedLetters, exponential: Scaled) -> O
 }
 
 // Both sides at order 1, the losses of either and the upper r(256).
-#[derive(Drop)]
+#[derive(Clone, Copy)]
 struct OpenSides {
     lower: Side,
     upper: Side,

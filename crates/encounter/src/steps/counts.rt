@@ -7,14 +7,14 @@ use crate::state::{Session, Terms};
 use crate::steps::losses::{either_side, none_lost, side_step};
 
 // How many of the first terms are exact, and 1 where nothing was lost on the way to what the next term is formed of, else 0.
-#[derive(Drop)]
+#[derive(Clone, Copy)]
 pub struct Counts {
     pub exact: u32,
     pub lossless: u32,
 }
 
 // Both sides' terms of one index, and the counts there.
-#[derive(Drop)]
+#[derive(Clone, Copy)]
 struct Counting {
     lower: Terms,
     upper: Terms,

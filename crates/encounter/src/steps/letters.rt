@@ -70,7 +70,7 @@ fn three(up: bool, zx: Traced, zy: Traced, u: Traced) -> Traced
 }
 
 // What the letters are formed of.
-#[derive(Drop)]
+#[derive(Clone, Copy)]
 struct Parts {
     u: Traced,
     b: Traced,

@@ -14,7 +14,7 @@ use crate::state::{Letters, Terms};
 use exact::Traced;
 
 // A side's letters.
-#[derive(Drop)]
+#[derive(Clone, Copy)]
 pub struct TracedLetters {
     pub u: Traced,
     pub h: Traced,
@@ -24,7 +24,7 @@ pub struct TracedLetters {
 }
 
 // A side's c, p, v and y of one index, and its sum to there.
-#[derive(Drop)]
+#[derive(Clone, Copy)]
 pub struct TracedTerms {
     pub c: Traced,
     pub p: Traced,
@@ -141,7 +141,7 @@ fn next_terms(up: bool, l: TracedLetters, s: TracedTerms, n: u64) -> TracedTerms
 }
 
 // Whether something was lost on the way to a term, and whether it was on the way to what the next term is formed of.
-#[derive(Drop)]
+#[derive(Clone, Copy)]
 pub struct Losses {
     pub term: bool,
     pub operand: bool,
@@ -187,7 +187,7 @@ pub fn none_lost(lost: bool) -> u32
 }
 
 // A side's terms one index on, without their losses, and what is lost there.
-#[derive(Drop)]
+#[derive(Clone, Copy)]
 pub struct SideStep {
     pub terms: Terms,
     pub losses: Losses,

@@ -46,7 +46,7 @@ fn rounds(t: Pair, first: PowerPairs) -> PowerPairs
 }
 
 // Both exponential sums, and the upper r(256).
-#[derive(Drop)]
+#[derive(Clone, Copy)]
 pub struct Exponentials {
     pub lower: Scaled,
     pub upper: Scaled,

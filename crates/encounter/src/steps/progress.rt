@@ -11,7 +11,7 @@ use crate::steps::terms::{next_tail, next_terms};
 use exact::Scaled;
 
 // What the terms of an add change.
-#[derive(Drop)]
+#[derive(Clone, Copy)]
 pub struct Progress {
     pub lower: Terms,
     pub upper: Terms,
@@ -19,7 +19,7 @@ pub struct Progress {
 }
 
 // A session's numbers as the loop holds them.
-#[derive(Drop)]
+#[derive(Clone, Copy)]
 struct Numbers {
     l: LetterPairs,
     M: Wide,

@@ -13,13 +13,13 @@ use crate::arithmetic::wide::{
 use crate::state::{Letters, Terms};
 use exact::Scaled;
 
-#[derive(Drop)]
+#[derive(Clone, Copy)]
 pub struct Pair {
     pub lower: Wide,
     pub upper: Wide,
 }
 
-#[derive(Drop)]
+#[derive(Clone, Copy)]
 pub struct LetterPairs {
     pub u: Pair,
     pub h: Pair,
@@ -28,7 +28,7 @@ pub struct LetterPairs {
     pub t: Pair,
 }
 
-#[derive(Drop)]
+#[derive(Clone, Copy)]
 pub struct TermPairs {
     pub c: Pair,
     pub p: Pair,
@@ -38,7 +38,7 @@ pub struct TermPairs {
 }
 
 // r(k), and the sum of r(0) to r(k).
-#[derive(Drop)]
+#[derive(Clone, Copy)]
 pub struct PowerPairs {
     pub r: Pair,
     pub sum: Pair,

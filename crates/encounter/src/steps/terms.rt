@@ -42,7 +42,7 @@ fn next_weighted(x: Pair, hx: Pair, by: Reciprocal) -> Pair
     sums(x, overs_by(hx, by))
 }
 
-#[derive(Drop)]
+#[derive(Clone, Copy)]
 struct Weighted {
     v: Pair,
     y: Pair,

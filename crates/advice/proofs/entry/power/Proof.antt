@@ -1,5 +1,5 @@
 use Prim.Native.Nat.{◌^◌}
-use native.Mathlib.Nat.{one_mul, mod-eq_of_lt}
+use native.Mathlib.Nat.{one-mul, mod-eq_of_lt}
 use native.Mathlib.Omega.{arith}
 use lib.Pow.{pow-lt}
 use borrow.Author.Rules.{rules}
@@ -10,7 +10,7 @@ shl-result : tie.Need-overflow-shl-result
 shl-result c = search rules
 
 returns : tie.Need-returns
-returns c = rw (one_mul (2 ^ c.args.n)) (mod-eq_of_lt (pow-lt {j = 64} (omega arith)))
+returns c = rw (one-mul (2 ^ c.args.n)) (mod-eq_of_lt (pow-lt {j = 64} (omega arith)))
 
 pub power-spec : {M : Type 1} → statement M
 power-spec = tie.close (tie.spec shl-result returns)

@@ -1,6 +1,6 @@
 use mathlib.Core.Path.{sym}
 use Prim.Native.Nat.{ℕ, ◌*◌, ◌^◌, ◌≤◌, ◌<◌}
-use native.Mathlib.Nat.{mul-le-mul, zero-mul, mul_zero}
+use native.Mathlib.Nat.{mul-le-mul, zero-mul, mul-zero}
 use native.Mathlib.Omega.{arith}
 use lib.Dec.{lit<}
 use lib.IntN.{pos, ◌+ℤ◌}
@@ -72,7 +72,7 @@ returns-2 c =
     let h = z.args.a.m * z.args.b.m in
     let some = c.before.before.before.before.if1.false in
     let m = normal z.requires.0.is_scaled (λ e. some (rw e (zero-mul z.args.b.m))) in
-    let n = normal z.requires.1.is_scaled (λ e. some (rw e (mul_zero z.args.a.m))) in
+    let n = normal z.requires.1.is_scaled (λ e. some (rw e (mul-zero z.args.a.m))) in
     let low : 2 ^ 62 ≤ h = omega (arith, mul-le-mul m.low n.low) in
     fitted_rounds
     (rw (back_in w64 r.result r.type-inv, r.ensures, back_in w64 p.result p.type-inv, p.ensures, to_z-of_z (in_fits z.requires.0), to_z-of_z (in_fits z.requires.1)) at c.fit.ensures)

@@ -2,7 +2,7 @@ use mathlib.Core.Path.{◌≡◌, refl, sym, ◌∙◌}
 use mathlib.Core.Bool.{Bool, true}
 use mathlib.Core.Logic.{inr}
 use Prim.Native.Nat.{◌*◌, ◌^◌}
-use native.Mathlib.Nat.{mul_one}
+use native.Mathlib.Nat.{mul-one}
 use lib.Dec.{lit<, lit≤}
 use lib.IntN.{negsuc}
 use lib.Ieee.{size, span, climb}
@@ -33,7 +33,7 @@ threshold-in = record { is_scaled = inr (record { low = lit≤ tt; high = lit< t
 -- at least 1/10,000 is 10,000 times at least 1
 scale : (x : Frac) → at_most (1 over threshold_odds) x ≡ at_most (whole 1) (x ⊗ whole threshold_odds)
 unfolding at_most ◌over◌ ◌⊗◌ whole
-scale x = rw (mul_one x.den, mul_one (x.num * threshold_odds))
+scale x = rw (mul-one x.den, mul-one (x.num * threshold_odds))
 
 -- what the code tests of an end
 test-is : {x : Scaled} {r : Bool} → IsScaled 32 x → r ≡ at_most (value threshold) (value x) → alert (value x) ≡ r
