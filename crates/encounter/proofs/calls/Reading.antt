@@ -27,7 +27,7 @@ use Rattle.encounter.proofs.steps.Rounds.{powers_fine}
 use Rattle.encounter.proofs.steps.Progressing.{M_is, terms_fine, d_range}
 
 pub not_not : (b : Bool) → b ≡ not (not b)
-not_not b = sym (Bool.not_not b)
+not_not b = sym (Bool.not-not b)
 
 -- a scaled number above 0 has its bits
 pub above_zero : {x : Scaled} → IsScaled 32 x → 0 < (value x).num → Normal 32 x

@@ -1,0 +1,7 @@
+use Rattle.exact.specs.Arithmetic.{traced}
+use borrow.Author.Rules.{rules}
+use Rattle.encounter.proofs.arithmetic.traced.halved.Goals as goal
+
+pub returns : goal.returns
+unfolding traced
+returns c = λ up. rw c.halved-number.ensures

@@ -1,0 +1,9 @@
+use mathlib.Core.Path.{refl}
+use Rattle.exact.specs.Arithmetic.{traced}
+use Rattle.encounter.proofs.arithmetic.Results.{passed_is}
+use borrow.Author.Rules.{rules}
+use Rattle.encounter.proofs.arithmetic.traced.over.Goals as goal
+
+pub returns : goal.returns
+unfolding traced
+returns c = passed_is c.args.up _ _ refl c.over.ensures c.passed_on.ensures

@@ -1,0 +1,8 @@
+use Rattle.exact.specs.Arithmetic.{traced}
+use Rattle.encounter.proofs.arithmetic.Results.{passed_is}
+use borrow.Author.Rules.{rules}
+use Rattle.encounter.proofs.arithmetic.traced.sum.Goals as goal
+
+pub returns : goal.returns
+unfolding traced
+returns c = passed_is c.args.up _ _ c.either-before.ensures c.sum.ensures c.passed_on.ensures

@@ -1,0 +1,58 @@
+use mathlib.Core.Path.{◌≡◌}
+use mathlib.Core.Logic.{inr}
+use Prim.Native.Nat.{ℕ, ◌+◌, ◌*◌, ◌^◌, ◌<◌}
+use native.Mathlib.Nat.{mod-eq_of_lt}
+use native.Mathlib.Omega.{arith}
+use lib.Count.{count_leading_zeros}
+use lib.Ieee.{size}
+use lib.IntN.{ℤ, pos, ◌-ℤ◌}
+use mir.Facts.{to_z-of_z}
+use mir.Syntax.{w32, w64}
+use mir.Val.{SFits}
+use Rattle.exact.specs.Scaled.{scaled, Normal}
+use Rattle.exact.proofs.Bits.{leading_size, size_pos}
+use Rattle.exact.proofs.Signed.{back_in, longer, pos_fits, neg_fits}
+use Rattle.exact.proofs.Integers.{pos_diff, neg_diff}
+use Rattle.exact.proofs.Operations.{whole_normal, shift_same}
+use borrow.Author.Rules.{rules}
+use Rattle.encounter.proofs.decimals.normal.Goals as goal
+
+-- a mantissa with its highest bit at the top
+module _ (m : ℕ) (some : 0 < m) (fits : m < 2 ^ 32) where
+  bits : size m + count_leading_zeros 32 m ≡ 32
+  bits = omega (arith, leading_size 32 m some fits)
+
+  few : count_leading_zeros 32 m < 32
+  few = omega (arith, bits, size_pos m some)
+
+  full : (e : ℤ) → Normal 32 (scaled (m * 2 ^ count_leading_zeros 32 m) e)
+  full e = let n = whole_normal 32 m some fits (count_leading_zeros 32 m) bits in record { low = n.low; high = n.high }
+
+pub overflow_shl-m : goal.overflow_shl-m
+overflow_shl-m c = few c.args.x.m c.requires c.struct_told-1.given.0.1
+
+pub overflow_cast-a : goal.overflow_cast-a
+overflow_cast-a c = let h : SFits w32 c.args.x.e = record { sfits = c.struct_told-1.given.1.0.1 } in rw (to_z-of_z {w = w32} h) (longer h)
+
+pub overflow_cast-z : goal.overflow_cast-z
+overflow_cast-z c = record { fits = omega (arith, few c.args.x.m c.requires c.struct_told-1.given.0.1) }
+
+pub lowered-e-requires : goal.lowered-e-requires
+lowered-e-requires c =
+    let h : SFits w32 c.args.x.e = record { sfits = c.struct_told-1.given.1.0.1 } in
+    rw (to_z-of_z {w = w32} h, to_z-of_z (longer h)) (omega (arith, neg_fits h, few c.args.x.m c.requires c.struct_told-1.given.0.1))
+
+pub returns : goal.returns
+returns c =
+    let a = c.args.x in
+    let some = c.requires in
+    let fits = c.struct_told-1.given.0.1 in
+    let h : SFits w32 c.args.x.e = record { sfits = c.struct_told-1.given.1.0.1 } in
+    let e = a.e -ℤ pos (count_leading_zeros 32 a.m) in
+    let n = full a.m some fits e in
+    let l = few a.m some fits in
+    rw (mod-eq_of_lt n.high, back_in w64 c.lowered-e.result c.lowered-e.type_inv, c.lowered-e.ensures, to_z-of_z {w = w32} h, to_z-of_z (longer h)) (
+      n,
+      record { is_scaled = inr n; above = omega (arith, pos_diff a.e (pos (count_leading_zeros 32 a.m)), pos_fits h, l); below = omega (arith, neg_diff a.e (pos (count_leading_zeros 32 a.m)), neg_fits h, l) },
+      shift_same a.m (count_leading_zeros 32 a.m) a.e,
+    )

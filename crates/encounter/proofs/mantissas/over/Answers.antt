@@ -1,0 +1,48 @@
+use mathlib.Core.Path.{◌≡◌, sym, ◌∙◌, ap}
+use mathlib.Core.Bool.{Bool, false}
+use mathlib.Core.Logic.{inr}
+use Prim.Native.Nat.{ℕ, ◌^◌, ◌≤◌, ◌<◌}
+use native.Mathlib.Omega.{arith}
+use lib.Dec.{lit≤}
+use lib.IntN.{pos}
+use borrow.Author.Rules.{rules}
+use borrow.Author.Tests.{eq-eqb, ne_eqb, lt-ltb, le-ltb}
+use Rattle.exact.specs.declared.Scaled.{Scaled}
+use Rattle.exact.specs.declared.Traced.{Traced}
+use Rattle.exact.specs.Fraction.{◌÷◌}
+use Rattle.exact.specs.Scaled.{scaled, nought, value, Normal}
+use Rattle.exact.specs.Private.Ranges.{InRange}
+use Rattle.exact.specs.Arithmetic.{rounding}
+use Rattle.encounter.specs.Mantissas.{mantissa_over}
+use Rattle.encounter.proofs.mantissas.over.Goals as goal
+
+-- ---- the three cases
+by_zero : (up : Bool) (m k : ℕ) → k ≡ 0 → nought ≡ mantissa_over up m k
+unfolding mantissa_over
+by_zero up m k z = rw (eq-eqb k 0 z)
+
+too_small : (up : Bool) (m k : ℕ) → (k ≡ 0 → ⊥) → m < 2 ^ 31 → nought ≡ mantissa_over up m k
+unfolding mantissa_over
+too_small up m k n l = rw (ne_eqb k 0 n, lt-ltb m (2 ^ 31) l)
+
+divides : (up : Bool) (m k : ℕ) (r : Traced) → (k ≡ 0 → ⊥) → 2 ^ 31 ≤ m → r ≡ rounding up 32 (value (scaled m (pos 0)) ÷ k) false → r.number ≡ mantissa_over up m k
+unfolding mantissa_over rounding
+divides up m k r n l e = rw (ne_eqb k 0 n, le-ltb m (2 ^ 31) l) (ap (λ (t : Traced). t.number) e)
+
+-- a mantissa of 32 bits
+in_range : (m : ℕ) → 2 ^ 31 ≤ m → m < 2 ^ 32 → InRange 32 (2 ^ 28) (scaled m (pos 0))
+in_range m l h = record { is_scaled = inr (record { low = omega (arith, l); high = h }); above = lit≤ tt; below = lit≤ tt }
+
+pub returns-then-k-eq0 : goal.returns-then-k-eq0
+returns-then-k-eq0 c = let a = c.args in by_zero a.up a.m a.k c.if-k-eq0.true
+
+pub returns-then-m-lt2147483648 : goal.returns-then-m-lt2147483648
+returns-then-m-lt2147483648 c = let a = c.args in too_small a.up a.m a.k c.if-k-eq0.false c.if-m-lt2147483648.true
+
+pub over-r-requires : goal.over-r-requires
+over-r-requires c = let a = c.args in (in_range a.m c.if-m-lt2147483648.false (search rules), omega (arith, c.if-k-eq0.false), search rules)
+
+pub returns : goal.returns
+returns c =
+    let a = c.args in
+    divides a.up a.m a.k c.over-r.result c.if-k-eq0.false c.if-m-lt2147483648.false c.over-r.ensures

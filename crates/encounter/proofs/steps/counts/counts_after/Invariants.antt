@@ -1,0 +1,14 @@
+use mathlib.Core.Path.{◌≡◌, ◌∙◌, ap}
+use Prim.Native.Nat.{suc, ◌+◌, ◌-◌, ◌≤◌, ◌<◌}
+use native.Mathlib.Omega.{arith}
+use Rattle.exact.specs.Numbers.{largest_order}
+use Rattle.encounter.specs.Private.Held.{counts, counting, Begun}
+use Rattle.encounter.proofs.steps.Counting.{may_go_on, counting_starts, counting_ends}
+use borrow.Author.Rules.{rules}
+use Rattle.encounter.proofs.steps.counts.counts_after.Given as goal
+
+abbrev pub invariant-loop-s : goal.invariant-loop-s
+invariant-loop-s w = (Begun w.s) × (w.n ≤ w.limit) × (w.limit < largest_order) × (w.w ≡ counting w.s.encounter w.n)
+
+abbrev pub decreases-loop-s : goal.decreases-loop-s
+decreases-loop-s w = w.limit - w.n

@@ -1,0 +1,15 @@
+use native.Mathlib.Nat.{mul-pos}
+use native.Mathlib.Omega.{arith}
+use Rattle.exact.specs.Arithmetic.{traced}
+use Rattle.exact.specs.Series.{a₀}
+use Rattle.exact.specs.Steps.{start}
+use borrow.Author.Rules.{rules}
+use Rattle.encounter.proofs.steps.letters.start.Goals as goal
+
+pub ratio-requires : goal.ratio-requires
+ratio-requires c =
+    (omega (arith, c.times.ensures.1), omega (arith, c.times-2.ensures.1), omega (arith, c.times-2.ensures.0, mul-pos c.requires.sx_pos c.requires.sy_pos))
+
+pub returns : goal.returns
+unfolding start a₀ traced
+returns c = rw (c.ratio.ensures, c.times-2.ensures.0, c.times.ensures.0)

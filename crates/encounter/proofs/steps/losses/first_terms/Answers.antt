@@ -1,0 +1,7 @@
+use Rattle.exact.specs.Steps.{first}
+use borrow.Author.Rules.{rules}
+use Rattle.encounter.proofs.steps.losses.first_terms.Goals as goal
+
+pub returns : goal.returns
+unfolding first
+returns c = rw c.product-p.ensures
