@@ -3,8 +3,6 @@ pub mod Answering
 pub mod Conjunctions
 pub mod Stars
 pub mod Invariant
-pub mod Lending
-pub mod Rows
 pub mod Claiming
 pub mod AcceptedReads
 pub mod Classes

@@ -105,7 +105,7 @@ claim {s} {w} h c = record {
 every : {s : Session} {w : History} → Whole s w → (cs : List Call) → Every Claim (places s w cs)
 unfolding places
 every h [] = tt
-every h (c ∷ cs) = (claim h c, every (keeps h c) cs)
+every {s = s} {w = w} h (c ∷ cs) = (claim h c, every {s = (call c s).session} {w = follow w (asked c)} (keeps h c) cs)
 
 pub demands : Demands
 unfolding Demands

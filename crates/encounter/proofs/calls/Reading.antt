@@ -12,7 +12,7 @@ use Rattle.exact.specs.Private.Ranges.{largest_exponent, InRange}
 use Rattle.exact.specs.Private.Round.{round}
 use Rattle.exact.specs.Numbers.{exponential_cut, largest_order}
 use Rattle.exact.specs.declared.Encounter.{Encounter}
-use Rattle.exact.specs.Steps.{sum_to, M, d, tail_bound, exponential_with_tail, exponential_sum, r256, lower_end, upper_end}
+use Rattle.exact.specs.Steps.{sum_to, d, tail_bound, exponential_with_tail, exponential_sum, r256, lower_end, upper_end}
 use Rattle.exact.specs.Refusals.{refuses_23}
 use Rattle.exact.proofs.Fractions.{≼_trans, num_pos, drop_last}
 use Rattle.exact.proofs.Rounding.{round_is}

@@ -20,7 +20,7 @@ use Rattle.exact.specs.Records.{Request, begin, begin_conjunction, add, read}
 use Rattle.exact.proofs.Mirror.{lower_mirror, upper_mirror, read_mirror, refusal_mirror, exact_mirror}
 use Rattle.encounter.specs.declared.state.Session.{Session}
 use Rattle.encounter.specs.declared.state.Answer.{Answer}
-use Rattle.encounter.specs.Session.{empty, state, no_object, refused, bracket}
+use Rattle.encounter.specs.Session.{empty, state, refused, bracket}
 use Rattle.encounter.specs.Calls.{history_after, history_of, accepted_answer, outcome, begins, begins_conjunction, adds, reads, call}
 use Rattle.encounter.specs.Claims.{mirrored_conjunction}
 use Rattle.encounter.specs.Stars.{E₂, All, stars}

@@ -2,7 +2,7 @@
 use mathlib.Core.Path.{◌≡◌, refl, sym, subst}
 use mathlib.Core.Bool.{Bool, true, false}
 use mathlib.Core.Logic.{inr}
-use Prim.Native.Nat.{ℕ, zero, suc, pred, ◌+◌, ◌-◌, ◌*◌, ◌/◌, ◌^◌, ◌≤◌, ◌<◌}
+use Prim.Native.Nat.{ℕ, zero, suc, pred, ◌+◌, ◌*◌, ◌/◌, ◌^◌, ◌≤◌, ◌<◌}
 use native.Mathlib.Nat.{le_trans, lt_of_le_of_lt, mul-le-mul_right, mul-lt-mul_of_pos_right, pow-le-pow_right}
 use native.Mathlib.Omega.{arith}
 use lib.Dec.{T, leb, leb→le, lit<, lit≤}
@@ -10,7 +10,7 @@ use lib.IntN.{pos}
 use lib.Pow.{pow-add, pow_mono, pow_pos}
 use Rattle.exact.specs.declared.Scaled.{Scaled}
 use Rattle.exact.specs.Integer.{pos_part, neg_part}
-use Rattle.exact.specs.Fraction.{Frac, ◌≼◌, ◌⊗◌, whole}
+use Rattle.exact.specs.Fraction.{Frac, ◌⊗◌, whole}
 use Rattle.exact.specs.Scaled.{value}
 use Rattle.exact.specs.Decimals.{table_length, entry, times_power, reaches, least_power, floor}
 use Rattle.exact.specs.Private.Ranges.{InRange}

@@ -14,11 +14,9 @@ use Rattle.exact.proofs.Accepted.{neither}
 use Rattle.exact.proofs.Losses.{clean_term, clean_operand}
 use Rattle.encounter.specs.declared.state.Letters.{Letters}
 use Rattle.encounter.specs.declared.state.Terms.{Terms}
-use Rattle.encounter.specs.declared.state.Session.{Session}
 use Rattle.encounter.specs.declared.steps.losses.Losses.{Losses}
 use Rattle.encounter.specs.declared.steps.losses.TracedLetters.{TracedLetters}
 use Rattle.encounter.specs.declared.steps.losses.TracedTerms.{TracedTerms}
-use Rattle.encounter.specs.Session.{side, state}
 use Rattle.encounter.specs.Private.Held.{step_letters, step_terms, held_terms, way_letters, way_terms, CleanLosses}
 
 -- ---- a side's losses one index on, from clean numbers

@@ -23,7 +23,7 @@ use Rattle.encounter.specs.declared.calls.opening.OpenSide.{OpenSide}
 use Rattle.encounter.specs.declared.calls.opening.OpenSides.{OpenSides}
 use Rattle.encounter.specs.Session.{state, no_object, side}
 use Rattle.encounter.specs.Private.Held.{held_letters, step_letters, held_terms, way_letters, way_terms, HasT}
-use Rattle.encounter.proofs.steps.SideNumbers.{letters_of_side, terms_of_side}
+use Rattle.encounter.proofs.steps.SideNumbers.{terms_of_side}
 
 -- ---- the letters and c(0), as they are formed with their losses
 

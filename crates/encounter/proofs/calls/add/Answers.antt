@@ -3,7 +3,6 @@ use native.Mathlib.Omega.{arith}
 use Rattle.encounter.proofs.calls.Invariant.{begun, order_high}
 use Rattle.encounter.proofs.calls.Answering.{add_12, add_21, add_22, add_taken, call_reached}
 use Rattle.encounter.specs.Calls.{adds}
-use borrow.Author.Rules.{rules}
 use Rattle.encounter.proofs.calls.add.Goals as goal
 
 pub returns-then-count-eq0 : goal.returns-then-count-eq0

@@ -2,7 +2,6 @@ use mathlib.Core.Path.{refl, ◌∙◌}
 use Rattle.encounter.specs.Calls.{begins_conjunction}
 use Rattle.encounter.proofs.calls.Answering.{call_reached}
 use Rattle.encounter.proofs.calls.Conjunctions.{conjunction_refused, conjunction_taken}
-use borrow.Author.Rules.{rules}
 use Rattle.encounter.proofs.calls.begin_conjunction.Goals as goal
 
 pub returns-then-refusal-gt0 : goal.returns-then-refusal-gt0

@@ -1,7 +1,6 @@
 use mathlib.Core.Path.{◌∙◌}
 use native.Mathlib.Omega.{arith}
 use Rattle.encounter.proofs.steps.Progressing.{added_is}
-use borrow.Author.Rules.{rules}
 use Rattle.encounter.proofs.calls.further.Goals as goal
 
 pub returns : goal.returns

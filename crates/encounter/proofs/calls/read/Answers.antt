@@ -6,7 +6,6 @@ use Rattle.encounter.proofs.calls.Invariant.{begun, demands}
 use Rattle.encounter.proofs.steps.Progressing.{exact_is}
 use Rattle.encounter.proofs.calls.Reading.{not_not, lower_end_fine, upper_end_fine}
 use Rattle.encounter.proofs.calls.Answering.{read_21, read_23, read_taken, bracket_is}
-use borrow.Author.Rules.{rules}
 use Rattle.encounter.proofs.calls.read.Goals as goal
 
 -- the code tests that 23 does not refuse
@@ -14,7 +13,7 @@ flipped : {b r x : Bool} → r ≡ not b → r ≡ x → b ≡ not x
 flipped {b = b} e f = not_not b ∙ ap not (sym e ∙ f)
 
 pub returns-then-s-eq0 : goal.returns-then-s-eq0
-returns-then-s-eq0 c = (read_21 c.args.s c.if-s-eq0.true c.refused.ensures, demands)
+returns-then-s-eq0 c = record { value = read_21 c.args.s c.if-s-eq0.true c.refused.ensures; demands = demands }
 
 pub may_read-requires : goal.may_read-requires
 may_read-requires c = begun c.args.s c.requires c.if-s-eq0.false
@@ -33,11 +32,11 @@ classify-class-requires c =
 pub returns-then-may_read : goal.returns-then-may_read
 returns-then-may_read c =
     let some = c.if-s-eq0.false in
-    let e = exact_is c.args.s (begun c.args.s c.requires some) in (
-      read_taken c.args.s some (flipped c.may_read.ensures c.if-may_read.true) (bracket_is c.args.s e c.lower_end-lower.ensures c.upper_end-upper.ensures c.classify-class.ensures),
-      demands,
-    )
+    let e = exact_is c.args.s (begun c.args.s c.requires some) in record {
+      value = read_taken c.args.s some (flipped c.may_read.ensures c.if-may_read.true) (bracket_is c.args.s e c.lower_end-lower.ensures c.upper_end-upper.ensures c.classify-class.ensures);
+      demands = demands;
+    }
 
 pub returns-else-may_read : goal.returns-else-may_read
 returns-else-may_read c =
-    (read_23 c.args.s c.if-s-eq0.false (flipped c.may_read.ensures c.if-may_read.false) c.refused-else-may_read.ensures, demands)
+    record { value = read_23 c.args.s c.if-s-eq0.false (flipped c.may_read.ensures c.if-may_read.false) c.refused-else-may_read.ensures; demands = demands }

@@ -1,5 +1,4 @@
 use native.Mathlib.Omega.{arith}
-use borrow.Author.Rules.{rules}
 use Rattle.encounter.specs.Private.Loops.{narrow}
 use Rattle.encounter.proofs.decimals.Searching.{below_one}
 use Rattle.encounter.proofs.decimals.Cases.{whole_fine, digits_fine, found_is, none_is}

@@ -1,5 +1,4 @@
 use mathlib.Core.Path.{sym}
-use borrow.Author.Rules.{rules}
 use Rattle.exact.proofs.DecimalCases.{at_power_few, at_power_carried}
 use Rattle.encounter.proofs.decimals.decimal_at.Goals as goal
 

@@ -1,4 +1,3 @@
-use borrow.Author.Rules.{rules}
 use Rattle.exact.proofs.DecimalCases.{digits_up, digits_cut, digits_same}
 use Rattle.encounter.proofs.decimals.digits.Goals as goal
 

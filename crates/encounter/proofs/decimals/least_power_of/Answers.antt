@@ -1,11 +1,8 @@
-use mathlib.Core.Path.{◌≡◌}
-use mathlib.Core.Bool.{false}
-use Prim.Native.Nat.{ℕ, ◌-◌, ◌≤◌, ◌<◌}
 use native.Mathlib.Omega.{arith}
 use borrow.Author.Count.{below_more}
 use borrow.Author.Rules.{rules}
 use lib.Dec.{lit≤}
-use Rattle.exact.specs.Decimals.{table_length, reaches}
+use Rattle.exact.specs.Decimals.{table_length}
 use Rattle.encounter.specs.Private.Loops.{narrow}
 use Rattle.encounter.proofs.decimals.Searching.{in_range, before_first, first_within, reaches_yes, reaches_no, least_at}
 use Rattle.encounter.proofs.decimals.least_power_of.Goals as goal

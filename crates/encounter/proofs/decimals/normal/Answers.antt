@@ -14,7 +14,6 @@ use Rattle.exact.proofs.Bits.{leading_size, size_pos}
 use Rattle.exact.proofs.Signed.{back_in, longer, pos_fits, neg_fits}
 use Rattle.exact.proofs.Integers.{pos_diff, neg_diff}
 use Rattle.exact.proofs.Operations.{whole_normal, shift_same}
-use borrow.Author.Rules.{rules}
 use Rattle.encounter.proofs.decimals.normal.Goals as goal
 
 -- a mantissa with its highest bit at the top

@@ -1,5 +1,4 @@
 use mathlib.Core.Path.{◌∙◌}
-use borrow.Author.Rules.{rules}
 use lib.Dec.{lit≤}
 use Rattle.exact.proofs.Ranges.{widen}
 use Rattle.encounter.specs.Private.Loops.{narrow}

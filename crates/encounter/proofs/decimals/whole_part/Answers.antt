@@ -2,7 +2,6 @@ use native.Mathlib.Omega.{arith}
 use lib.IntN.{pos}
 use mir.Facts.{to_z-of_z}
 use mir.Syntax.{w64}
-use borrow.Author.Rules.{rules}
 use Rattle.exact.proofs.Packing.{scaled_high}
 use Rattle.exact.proofs.Ranges.{in_fits}
 use Rattle.exact.proofs.Signed.{diff_fits_in}

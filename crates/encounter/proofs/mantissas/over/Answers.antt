@@ -1,4 +1,4 @@
-use mathlib.Core.Path.{◌≡◌, sym, ◌∙◌, ap}
+use mathlib.Core.Path.{◌≡◌, ap}
 use mathlib.Core.Bool.{Bool, false}
 use mathlib.Core.Logic.{inr}
 use Prim.Native.Nat.{ℕ, ◌^◌, ◌≤◌, ◌<◌}
@@ -7,10 +7,9 @@ use lib.Dec.{lit≤}
 use lib.IntN.{pos}
 use borrow.Author.Rules.{rules}
 use borrow.Author.Tests.{eq-eqb, ne_eqb, lt-ltb, le-ltb}
-use Rattle.exact.specs.declared.Scaled.{Scaled}
 use Rattle.exact.specs.declared.Traced.{Traced}
 use Rattle.exact.specs.Fraction.{◌÷◌}
-use Rattle.exact.specs.Scaled.{scaled, nought, value, Normal}
+use Rattle.exact.specs.Scaled.{scaled, nought, value}
 use Rattle.exact.specs.Private.Ranges.{InRange}
 use Rattle.exact.specs.Arithmetic.{rounding}
 use Rattle.encounter.specs.Mantissas.{mantissa_over}

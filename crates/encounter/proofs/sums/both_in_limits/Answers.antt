@@ -1,5 +1,4 @@
 use mathlib.Core.Path.{sym, ◌∙◌}
-use borrow.Author.Rules.{rules}
 use Rattle.encounter.proofs.sums.Limits.{second, neither}
 use Rattle.encounter.proofs.sums.both_in_limits.Goals as goal
 

@@ -1,5 +1,4 @@
 use mathlib.Core.Path.{sym, ◌∙◌}
-use borrow.Author.Rules.{rules}
 use Rattle.encounter.proofs.sums.Limits.{ranges_of, second_greater, first_greater, no_greater}
 use Rattle.encounter.proofs.sums.greater.Goals as goal
 

@@ -2,7 +2,6 @@ use mathlib.Core.Path.{sym, ◌∙◌}
 use mir.Facts.{to_z-of_z}
 use mir.Syntax.{w32}
 use mir.Val.{SFits}
-use borrow.Author.Rules.{rules}
 use Rattle.exact.proofs.Signed.{zero_bits}
 use Rattle.encounter.proofs.sums.Limits.{too_far, of_zero, of_some}
 use Rattle.encounter.proofs.sums.in_limits.Goals as goal

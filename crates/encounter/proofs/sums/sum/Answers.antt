@@ -1,5 +1,4 @@
 use mathlib.Core.Path.{sym, ◌∙◌}
-use borrow.Author.Rules.{rules}
 use Rattle.encounter.proofs.sums.Limits.{ranges_of, summed, no_sum}
 use Rattle.encounter.proofs.sums.sum.Goals as goal
 

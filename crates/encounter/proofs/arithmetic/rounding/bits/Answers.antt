@@ -1,5 +1,4 @@
 use Rattle.exact.proofs.Bits.{bits_are}
-use borrow.Author.Rules.{rules}
 use Rattle.encounter.proofs.arithmetic.rounding.bits.Goals as goal
 
 pub overflow_sub-result : goal.overflow_sub-result

@@ -1,6 +1,5 @@
 use mathlib.Core.Path.{refl}
 use Rattle.encounter.proofs.arithmetic.WholeParts.{raised_quotient}
-use borrow.Author.Rules.{rules}
 use Rattle.encounter.proofs.arithmetic.rounding.divided.Goals as goal
 
 pub returns : goal.returns

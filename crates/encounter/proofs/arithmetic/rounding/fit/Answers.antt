@@ -6,7 +6,6 @@ use mir.Facts.{to_z-of_z}
 use Rattle.exact.proofs.Signed.{back_in}
 use Rattle.encounter.proofs.arithmetic.WholeParts.{fit_packs, fit_loses}
 use Rattle.encounter.specs.Private.Loops.{whole_part}
-use borrow.Author.Rules.{rules}
 use Rattle.encounter.proofs.arithmetic.rounding.fit.Goals as goal
 
 pub raised-f-requires : goal.raised-f-requires

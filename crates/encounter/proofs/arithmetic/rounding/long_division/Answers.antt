@@ -3,7 +3,6 @@ use Prim.Native.Nat.{ℕ, ◌+◌, ◌*◌, ◌/◌, ◌%◌, ◌^◌, ◌<◌}
 use native.Mathlib.Nat.{div-lt_iff_lt-mul, mul-add-div_right, mul-add-mod_self_right, div-add-mod', mod-lt}
 use native.Mathlib.Omega.{arith}
 use Rattle.encounter.proofs.arithmetic.WholeParts.{whole_none, whole_else, rest_none, rest_some}
-use borrow.Author.Rules.{rules}
 use Rattle.encounter.proofs.arithmetic.rounding.long_division.Goals as goal
 
 -- x / k, and 16 bits more

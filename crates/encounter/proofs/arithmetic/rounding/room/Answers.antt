@@ -6,7 +6,6 @@ use lib.Ieee.{size}
 use lib.Ieee.Digits.{size-le}
 use Rattle.exact.proofs.Bits.{size_pos}
 use Rattle.encounter.proofs.arithmetic.LongDivision.{filled}
-use borrow.Author.Rules.{rules}
 use Rattle.encounter.proofs.arithmetic.rounding.room.Goals as goal
 
 module _ (n k s : ℕ) (p : (0 < n) × (n < 2 ^ 48) × (2 ^ 47 ≤ k) × (k < 2 ^ 48)) (is : s ≡ size n) where

@@ -1,4 +1,3 @@
-use borrow.Author.Rules.{rules}
 use Rattle.encounter.proofs.arithmetic.scaled.at_most.Goals as goal
 
 pub at_most-requires : goal.at_most-requires

@@ -3,7 +3,6 @@ use lib.Dec.{lit≤}
 use Rattle.exact.specs.Scaled.{double}
 use Rattle.exact.proofs.Ranges.{widen}
 use Rattle.encounter.proofs.arithmetic.Fitting.{double_of}
-use borrow.Author.Rules.{rules}
 use Rattle.encounter.proofs.arithmetic.scaled.doubled.Goals as goal
 
 pub moved-requires : goal.moved-requires

@@ -3,7 +3,6 @@ use lib.Dec.{lit≤}
 use Rattle.exact.specs.Scaled.{half}
 use Rattle.exact.proofs.Ranges.{widen}
 use Rattle.encounter.proofs.arithmetic.Fitting.{half_of}
-use borrow.Author.Rules.{rules}
 use Rattle.encounter.proofs.arithmetic.scaled.halved.Goals as goal
 
 pub moved-requires : goal.moved-requires

@@ -3,7 +3,6 @@ use lib.Dec.{lit≤}
 use Rattle.exact.proofs.Ranges.{widen}
 use Rattle.encounter.proofs.arithmetic.Fitting.{over_of}
 use Rattle.encounter.proofs.arithmetic.Results.{traced_is}
-use borrow.Author.Rules.{rules}
 use Rattle.encounter.proofs.arithmetic.scaled.over.Goals as goal
 
 pub over-requires : goal.over-requires

@@ -2,7 +2,6 @@ use lib.Dec.{lit≤}
 use Rattle.exact.proofs.Ranges.{widen}
 use Rattle.encounter.proofs.arithmetic.Results.{traced_is}
 use Rattle.encounter.proofs.arithmetic.Fitting.{quotient_of}
-use borrow.Author.Rules.{rules}
 use Rattle.encounter.proofs.arithmetic.scaled.quotient.Goals as goal
 
 pub quotient-requires : goal.quotient-requires

@@ -16,7 +16,6 @@ use Rattle.encounter.proofs.arithmetic.Fitting.{ratio_of}
 use Rattle.encounter.proofs.arithmetic.Results.{fitted_rounds, traced_is}
 use Rattle.encounter.proofs.arithmetic.LongDivision.{filled, full, divides}
 use Rattle.encounter.proofs.arithmetic.WholeParts.{whole_le}
-use borrow.Author.Rules.{rules}
 use Rattle.encounter.proofs.arithmetic.scaled.ratio.Goals as goal
 
 pub returns-then-n-eq0 : goal.returns-then-n-eq0

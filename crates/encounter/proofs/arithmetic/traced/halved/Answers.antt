@@ -1,5 +1,4 @@
 use Rattle.exact.specs.Arithmetic.{traced}
-use borrow.Author.Rules.{rules}
 use Rattle.encounter.proofs.arithmetic.traced.halved.Goals as goal
 
 pub returns : goal.returns

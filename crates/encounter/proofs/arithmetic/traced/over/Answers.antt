@@ -1,7 +1,6 @@
 use mathlib.Core.Path.{refl}
 use Rattle.exact.specs.Arithmetic.{traced}
 use Rattle.encounter.proofs.arithmetic.Results.{passed_is}
-use borrow.Author.Rules.{rules}
 use Rattle.encounter.proofs.arithmetic.traced.over.Goals as goal
 
 pub returns : goal.returns

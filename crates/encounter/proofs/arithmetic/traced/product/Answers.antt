@@ -1,6 +1,5 @@
 use Rattle.exact.specs.Arithmetic.{traced}
 use Rattle.encounter.proofs.arithmetic.Results.{passed_is}
-use borrow.Author.Rules.{rules}
 use Rattle.encounter.proofs.arithmetic.traced.product.Goals as goal
 
 pub returns : goal.returns

@@ -11,7 +11,6 @@ use Rattle.exact.proofs.Operations.{sum_packs}
 use Rattle.encounter.specs.Private.Loops.{narrow, whole_part}
 use Rattle.encounter.proofs.arithmetic.Results.{fitted_rounds}
 use Rattle.encounter.proofs.arithmetic.WholeParts.{whole_le, whole_more}
-use borrow.Author.Rules.{rules}
 use Rattle.encounter.proofs.arithmetic.wide.aligned.Goals as goal
 
 -- at most the number that is shifted
@@ -22,11 +21,10 @@ pub overflow_add-part : goal.overflow_add-part
 overflow_add-part c = record { fits = omega (arith, under _ _ _ c.args.g c.shifted-below.ensures.0, c.requires.1.high, c.requires.2.high) }
 
 pub fit-requires : goal.fit-requires
-fit-requires c =
-    (
-      omega (arith, under _ _ _ c.args.g c.shifted-below.ensures.0, c.requires.1.high, c.requires.2.high),
-      rw (to_z-of_z (in_fits c.requires.0)) (omega (arith, c.requires.0.above)),
-    )
+fit-requires c = (
+  omega (arith, under _ _ _ c.args.g c.shifted-below.ensures.0, c.requires.1.high, c.requires.2.high),
+  rw (to_z-of_z (in_fits c.requires.0)) (omega (arith, c.requires.0.above)),
+)
 
 pub returns : goal.returns
 returns c =

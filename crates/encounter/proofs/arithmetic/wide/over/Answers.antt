@@ -19,7 +19,6 @@ use Rattle.exact.proofs.Ranges.{in_fits}
 use Rattle.encounter.specs.Private.Loops.{narrow}
 use Rattle.encounter.proofs.arithmetic.Results.{fitted_rounds, kept_rounds}
 use Rattle.encounter.proofs.arithmetic.WholeParts.{whole_le}
-use borrow.Author.Rules.{rules}
 use Rattle.encounter.proofs.arithmetic.wide.over.Goals as goal
 
 module _ (k : ℕ) (kp : 0 < k) (kl : k < 2 ^ 32) (m : ℕ) (ml : m < 2 ^ 32) where

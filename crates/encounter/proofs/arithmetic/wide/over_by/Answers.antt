@@ -17,7 +17,6 @@ use Rattle.encounter.specs.Private.Loops.{narrow}
 use Rattle.encounter.proofs.arithmetic.Results.{fitted_rounds, kept_rounds}
 use Rattle.encounter.proofs.arithmetic.WholeParts.{whole_le}
 use Rattle.encounter.proofs.arithmetic.Reciprocals.{few, formed, h_le, low_product, quotient_is}
-use borrow.Author.Rules.{rules}
 use Rattle.encounter.proofs.arithmetic.wide.over_by.Goals as goal
 
 pub returns-then-m-eq0 : goal.returns-then-m-eq0

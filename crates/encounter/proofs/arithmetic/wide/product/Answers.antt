@@ -15,7 +15,6 @@ use Rattle.exact.proofs.Ranges.{in_fits, below_square}
 use Rattle.encounter.specs.Private.Loops.{narrow}
 use Rattle.encounter.proofs.arithmetic.Results.{fitted_rounds, kept_rounds}
 use Rattle.encounter.proofs.arithmetic.WholeParts.{whole_le}
-use borrow.Author.Rules.{rules}
 use Rattle.encounter.proofs.arithmetic.wide.product.Goals as goal
 
 -- the product of two mantissas is at most (2^32 - 1)²

@@ -15,7 +15,6 @@ use Rattle.exact.proofs.Ranges.{in_fits}
 use Rattle.encounter.specs.Private.Loops.{narrow}
 use Rattle.encounter.proofs.arithmetic.Results.{fitted_rounds, kept_rounds}
 use Rattle.encounter.proofs.arithmetic.WholeParts.{whole_le}
-use borrow.Author.Rules.{rules}
 use Rattle.encounter.proofs.arithmetic.wide.quotient.Goals as goal
 
 pub returns-then-m-eq0 : goal.returns-then-m-eq0

@@ -1,7 +1,6 @@
 use mathlib.Core.Path.{refl}
 use native.Mathlib.Omega.{arith}
 use Rattle.encounter.proofs.arithmetic.Reciprocals.{few, whole_fits, rest_fits, reciprocal_is}
-use borrow.Author.Rules.{rules}
 use Rattle.encounter.proofs.arithmetic.wide.reciprocal_of.Goals as goal
 
 pub followed-n-requires : goal.followed-n-requires

@@ -5,7 +5,6 @@ use native.Mathlib.Omega.{arith}
 use lib.Pow.{pow_pos}
 use Rattle.encounter.proofs.arithmetic.Shift.{same_quotient, same_rest, left_over}
 use Rattle.encounter.proofs.arithmetic.WholeParts.{quotient_after, whole_down}
-use borrow.Author.Rules.{rules}
 use Rattle.encounter.proofs.arithmetic.wide.shifted.Goals as goal
 
 pub followed-requires : goal.followed-requires

@@ -9,7 +9,6 @@ use Rattle.exact.proofs.Operations.{normal, sum_none, sum_kept, sum_comm, lost_c
 use Rattle.exact.proofs.Ranges.{in_fits}
 use Rattle.encounter.specs.Private.Loops.{narrow}
 use Rattle.encounter.proofs.arithmetic.Results.{kept_rounds}
-use borrow.Author.Rules.{rules}
 use Rattle.encounter.proofs.arithmetic.wide.sum.Goals as goal
 
 pub returns-then-b-eq0 : goal.returns-then-b-eq0

@@ -1,5 +1,4 @@
 use Rattle.encounter.proofs.steps.Opening.{letters_fine, start_fine, opens}
-use borrow.Author.Rules.{rules}
 use Rattle.encounter.proofs.calls.opening.open_side.Goals as goal
 
 pub first_terms-s-requires : goal.first_terms-s-requires

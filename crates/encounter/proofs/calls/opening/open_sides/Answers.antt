@@ -1,6 +1,5 @@
 use Rattle.exact.proofs.Accepted.{facts}
 use Rattle.encounter.proofs.steps.Opening.{t_are, either_are}
-use borrow.Author.Rules.{rules}
 use Rattle.encounter.proofs.calls.opening.open_sides.Goals as goal
 
 pub exponential_sums-sums-requires : goal.exponential_sums-sums-requires

@@ -1,7 +1,6 @@
 use Rattle.exact.proofs.Accepted.{facts}
 use Rattle.exact.proofs.Exponents.{M_in}
 use Rattle.encounter.proofs.steps.Opening.{side_start_fine, opened_is}
-use borrow.Author.Rules.{rules}
 use Rattle.encounter.proofs.calls.opening.opened.Goals as goal
 
 pub open_sides-sides-requires : goal.open_sides-sides-requires

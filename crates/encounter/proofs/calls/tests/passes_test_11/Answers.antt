@@ -1,5 +1,4 @@
 use lib.Dec.{lit≤}
-use borrow.Author.Rules.{rules}
 use Rattle.encounter.proofs.calls.tests.passes_test_11.Goals as goal
 
 pub passes_test_23-requires : goal.passes_test_23-requires

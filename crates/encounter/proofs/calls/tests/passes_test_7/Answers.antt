@@ -7,7 +7,6 @@ use Rattle.exact.proofs.Operations.{whole_exact}
 use Rattle.exact.proofs.Order.{at_most_cong}
 use Rattle.exact.proofs.Ranges.{widen}
 use Rattle.encounter.proofs.arithmetic.Fitting.{whole_of}
-use borrow.Author.Rules.{rules}
 use Rattle.encounter.proofs.calls.tests.passes_test_7.Goals as goal
 
 pub at_most-requires : goal.at_most-requires

@@ -1,7 +1,6 @@
 use mathlib.Core.Path.{sym, ◌∙◌}
 use Rattle.encounter.proofs.calls.Answering.{test_3, test_4_sx, test_4_sy, test_5, test_6_xm, test_6_ym, tests_pass}
 use Rattle.exact.proofs.Signed.{back}
-use borrow.Author.Rules.{rules}
 use Rattle.encounter.proofs.calls.tests.test_inputs.Goals as goal
 
 pub returns-then-outside : goal.returns-then-outside

@@ -4,4 +4,4 @@ use Rattle.encounter.proofs.calls.Claiming.{claims}
 use Rattle.encounter.proofs.state.Session.empty.Goals as goal
 
 pub returns : goal.returns
-returns c = ((refl, from_empty), claims)
+returns c = record { value = (refl, from_empty); claims = claims }

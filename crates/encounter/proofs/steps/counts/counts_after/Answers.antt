@@ -1,10 +1,8 @@
 use mathlib.Core.Path.{◌≡◌, ◌∙◌, ap}
-use Prim.Native.Nat.{suc, ◌+◌, ◌-◌, ◌≤◌, ◌<◌}
+use Prim.Native.Nat.{suc, ◌+◌, ◌-◌, ◌<◌}
 use native.Mathlib.Omega.{arith}
-use Rattle.exact.specs.Numbers.{largest_order}
-use Rattle.encounter.specs.Private.Held.{counts, counting, Begun}
+use Rattle.encounter.specs.Private.Held.{counts, counting}
 use Rattle.encounter.proofs.steps.Counting.{may_go_on, counting_starts, counting_ends}
-use borrow.Author.Rules.{rules}
 use Rattle.encounter.proofs.steps.counts.counts_after.Goals as goal
 
 pub overflow_add-limit : goal.overflow_add-limit

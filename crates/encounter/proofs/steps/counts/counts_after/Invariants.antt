@@ -1,10 +1,7 @@
-use mathlib.Core.Path.{◌≡◌, ◌∙◌, ap}
-use Prim.Native.Nat.{suc, ◌+◌, ◌-◌, ◌≤◌, ◌<◌}
-use native.Mathlib.Omega.{arith}
+use mathlib.Core.Path.{◌≡◌}
+use Prim.Native.Nat.{◌-◌, ◌≤◌, ◌<◌}
 use Rattle.exact.specs.Numbers.{largest_order}
-use Rattle.encounter.specs.Private.Held.{counts, counting, Begun}
-use Rattle.encounter.proofs.steps.Counting.{may_go_on, counting_starts, counting_ends}
-use borrow.Author.Rules.{rules}
+use Rattle.encounter.specs.Private.Held.{counting, Begun}
 use Rattle.encounter.proofs.steps.counts.counts_after.Given as goal
 
 abbrev pub invariant-loop-s : goal.invariant-loop-s

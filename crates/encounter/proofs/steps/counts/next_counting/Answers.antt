@@ -1,6 +1,5 @@
 use native.Mathlib.Omega.{arith}
 use Rattle.encounter.proofs.steps.Counting.{lower_fine, upper_fine, exact_high, one_at_most, next_is}
-use borrow.Author.Rules.{rules}
 use Rattle.encounter.proofs.steps.counts.next_counting.Goals as goal
 
 pub side_step-one-requires : goal.side_step-one-requires

@@ -1,7 +1,6 @@
 use native.Mathlib.Nat.{mul-pos, mul-le-mul}
 use native.Mathlib.Omega.{arith}
 use Rattle.exact.specs.Arithmetic.{traced}
-use borrow.Author.Rules.{rules}
 use Rattle.encounter.proofs.steps.letters.excess.Goals as goal
 
 pub overflow_sub-xx : goal.overflow_sub-xx

@@ -1,6 +1,5 @@
 use Rattle.exact.specs.Series.{square, u, b, zx, zy, g}
 use Rattle.exact.proofs.Signed.{back}
-use borrow.Author.Rules.{rules}
 use Rattle.encounter.proofs.steps.letters.fractions.Goals as goal
 
 pub squares-zx-requires : goal.squares-zx-requires
@@ -11,11 +10,10 @@ squares-zy-requires c = (rw (c.magnitude-2.ensures, back c.args.E.ym c.struct_to
 
 pub returns : goal.returns
 unfolding square u b zx zy g
-returns c =
-    (
-      c.squares-u.ensures,
-      c.squares-b.ensures,
-      rw (c.squares-zx.ensures, c.magnitude.ensures, back c.args.E.xm c.struct_told-1.given.1.1.1.0.1),
-      rw (c.squares-zy.ensures, c.magnitude-2.ensures, back c.args.E.ym c.struct_told-2-1.given.1.1.1.1.0.1),
-      c.excess-g.ensures,
-    )
+returns c = (
+  c.squares-u.ensures,
+  c.squares-b.ensures,
+  rw (c.squares-zx.ensures, c.magnitude.ensures, back c.args.E.xm c.struct_told-1.given.1.1.1.0.1),
+  rw (c.squares-zy.ensures, c.magnitude-2.ensures, back c.args.E.ym c.struct_told-2-1.given.1.1.1.1.0.1),
+  c.excess-g.ensures,
+)

@@ -5,7 +5,6 @@ use Rattle.exact.proofs.Exponents.{fractions_in}
 use Rattle.exact.proofs.Ranges.{widen}
 use Rattle.encounter.proofs.steps.Tracing.{fraction_number}
 use Rattle.encounter.proofs.steps.Opening.{letters_fine}
-use borrow.Author.Rules.{rules}
 use Rattle.encounter.proofs.steps.letters.letters.Goals as goal
 
 pub product-h-requires : goal.product-h-requires

@@ -1,7 +1,6 @@
 use native.Mathlib.Nat.{mul-pos}
 use native.Mathlib.Omega.{arith}
 use Rattle.exact.specs.Arithmetic.{traced}
-use borrow.Author.Rules.{rules}
 use Rattle.encounter.proofs.steps.letters.squares.Goals as goal
 
 pub ratio-requires : goal.ratio-requires

@@ -3,7 +3,6 @@ use native.Mathlib.Omega.{arith}
 use Rattle.exact.specs.Arithmetic.{traced}
 use Rattle.exact.specs.Series.{a₀}
 use Rattle.exact.specs.Steps.{start}
-use borrow.Author.Rules.{rules}
 use Rattle.encounter.proofs.steps.letters.start.Goals as goal
 
 pub ratio-requires : goal.ratio-requires

@@ -1,7 +1,6 @@
 use lib.Dec.{lit≤}
 use Rattle.exact.proofs.Ranges.{widen}
 use Rattle.encounter.proofs.steps.Tracing.{sum_fine}
-use borrow.Author.Rules.{rules}
 use Rattle.encounter.proofs.steps.letters.three.Goals as goal
 
 pub sum-requires-2 : goal.sum-requires-2

@@ -1,5 +1,4 @@
 use Rattle.exact.specs.Steps.{first}
-use borrow.Author.Rules.{rules}
 use Rattle.encounter.proofs.steps.losses.first_terms.Goals as goal
 
 pub returns : goal.returns

@@ -4,7 +4,6 @@ use Rattle.exact.specs.declared.Traced.{Traced}
 use Rattle.exact.specs.Losses.{operand_lost}
 use Rattle.exact.specs.Steps.{LettersOf, TermsOf}
 use Rattle.encounter.specs.Private.Held.{way_letters, way_terms}
-use borrow.Author.Rules.{rules}
 use Rattle.encounter.proofs.steps.losses.losses_at.Goals as goal
 
 -- seven tests, put together from the last and from the first

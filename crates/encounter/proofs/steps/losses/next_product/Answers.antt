@@ -3,7 +3,6 @@ use lib.Dec.{lit≤}
 use Rattle.exact.proofs.Ranges.{widen}
 use native.Mathlib.Numerals.{add-two}
 use Rattle.encounter.proofs.steps.Tracing.{sum_fine, over_fine}
-use borrow.Author.Rules.{rules}
 use Rattle.encounter.proofs.steps.losses.next_product.Goals as goal
 
 pub sum-requires : goal.sum-requires

@@ -10,7 +10,6 @@ use Rattle.exact.specs.Steps.{next_c}
 use Rattle.exact.proofs.Ranges.{widen}
 use Rattle.encounter.proofs.steps.Divisors.{divisor, divisor_low, divisor_max}
 use Rattle.encounter.proofs.steps.Tracing.{sum_fine, product_fine, half_fine}
-use borrow.Author.Rules.{rules}
 use Rattle.encounter.proofs.steps.losses.next_term.Goals as goal
 
 -- the range of each number on the way

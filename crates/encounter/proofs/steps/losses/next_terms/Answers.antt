@@ -2,7 +2,6 @@ use lib.Dec.{lit≤}
 use Rattle.exact.specs.Steps.{next_p, next_v, next_y, next}
 use Rattle.exact.proofs.Ranges.{widen}
 use Rattle.encounter.proofs.steps.Tracing.{c_fine, weighted_fine}
-use borrow.Author.Rules.{rules}
 use Rattle.encounter.proofs.steps.losses.next_terms.Goals as goal
 
 pub next_product-p-requires : goal.next_product-p-requires

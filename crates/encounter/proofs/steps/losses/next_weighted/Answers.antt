@@ -3,7 +3,6 @@ use lib.Dec.{lit≤}
 use Rattle.exact.proofs.Ranges.{widen}
 use native.Mathlib.Numerals.{add-two}
 use Rattle.encounter.proofs.steps.Tracing.{product_fine, over_fine}
-use borrow.Author.Rules.{rules}
 use Rattle.encounter.proofs.steps.losses.next_weighted.Goals as goal
 
 pub over-requires : goal.over-requires

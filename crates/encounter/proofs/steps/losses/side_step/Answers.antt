@@ -1,5 +1,4 @@
 use Rattle.encounter.proofs.steps.NextLosses.{clean_letters_fine, clean_terms_fine, clean_terms_are, clean_losses_are}
-use borrow.Author.Rules.{rules}
 use Rattle.encounter.proofs.steps.losses.side_step.Goals as goal
 
 pub next_terms-next-requires : goal.next_terms-next-requires

@@ -5,7 +5,6 @@ use Rattle.exact.specs.declared.Scaled.{Scaled}
 use Rattle.exact.specs.Steps.{PowersOf, exponential_sum, r256}
 use Rattle.exact.proofs.Ranges.{widen}
 use Rattle.encounter.proofs.steps.Rounds.{powers_held, first_at}
-use borrow.Author.Rules.{rules}
 use Rattle.encounter.proofs.steps.powers.exponential_sums.Goals as goal
 
 pub rounds-w-requires : goal.rounds-w-requires

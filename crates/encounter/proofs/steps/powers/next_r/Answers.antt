@@ -4,7 +4,6 @@ use lib.Dec.{lit≤}
 use Rattle.exact.specs.Arithmetic.{rounded}
 use Rattle.exact.proofs.Ranges.{widen}
 use Rattle.encounter.proofs.arithmetic.Fitting.{product_of}
-use borrow.Author.Rules.{rules}
 use Rattle.encounter.proofs.steps.powers.next_r.Goals as goal
 
 pub products-requires : goal.products-requires

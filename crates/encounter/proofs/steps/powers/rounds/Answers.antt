@@ -1,12 +1,9 @@
 use mathlib.Core.Path.{◌≡◌}
-use Prim.Native.Nat.{pred, ◌-◌, ◌≤◌}
+use Prim.Native.Nat.{pred}
 use native.Mathlib.Numerals.{add-one}
 use native.Mathlib.Omega.{arith}
 use lib.Dec.{lit≤}
-use Rattle.exact.specs.declared.Encounter.{Encounter}
 use Rattle.exact.specs.Numbers.{exponential_cut}
-use Rattle.encounter.specs.Private.Loops.{PowersAt}
-use borrow.Author.Rules.{rules}
 use Rattle.encounter.proofs.steps.powers.rounds.Goals as goal
 
 pub loop-k-init : goal.loop-k-init

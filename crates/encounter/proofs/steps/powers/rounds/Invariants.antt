@@ -1,12 +1,7 @@
-use mathlib.Core.Path.{◌≡◌}
 use Prim.Native.Nat.{pred, ◌-◌, ◌≤◌}
-use native.Mathlib.Numerals.{add-one}
-use native.Mathlib.Omega.{arith}
-use lib.Dec.{lit≤}
 use Rattle.exact.specs.declared.Encounter.{Encounter}
 use Rattle.exact.specs.Numbers.{exponential_cut}
 use Rattle.encounter.specs.Private.Loops.{PowersAt}
-use borrow.Author.Rules.{rules}
 use Rattle.encounter.proofs.steps.powers.rounds.Given as goal
 
 -- whichever encounter's numbers t and w₀ are at k₀, t and w are the same encounter's at k

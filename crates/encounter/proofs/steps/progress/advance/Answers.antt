@@ -1,22 +1,13 @@
 use mathlib.Core.Path.{◌≡◌, ◌∙◌, ap}
 use mathlib.Core.Bool.{true, false}
-use Prim.Native.Nat.{◌+◌, ◌-◌, ◌≤◌, ◌<◌}
+use Prim.Native.Nat.{◌+◌, ◌-◌, ◌<◌}
 use native.Mathlib.Omega.{arith}
 use lib.Dec.{lit≤}
 use Rattle.exact.specs.Numbers.{largest_order}
-use Rattle.exact.specs.declared.Encounter.{Encounter}
 use Rattle.exact.proofs.Ranges.{widen}
-use Rattle.encounter.specs.Private.Held.{progress, Begun}
-use Rattle.encounter.proofs.steps.Progressing.{Holds, start_holds, letters_held, bound_held, terms_held, tail_held, next_holds, holds_progress}
-use borrow.Author.Rules.{rules}
+use Rattle.encounter.specs.Private.Held.{progress}
+use Rattle.encounter.proofs.steps.Progressing.{start_holds, letters_held, bound_held, terms_held, tail_held, next_holds, holds_progress}
 use Rattle.encounter.proofs.steps.progress.advance.Goals as goal
-
--- the numbers are the encounter's
-holds : (c : goal.At-loop-n)
-    → Holds c.args.s.encounter c.numbers_of-w.result.l c.numbers_of-w.result.M c.loop-n.t c.loop-n.d c.loop-n.n
-holds c =
-    let e = c.numbers_of-w.ensures in
-    c.loop-n.invariant.2 c.args.s.encounter (start_holds c.args.s c.requires.0 e.0 e.1 e.2 e.3)
 
 pub overflow_add-limit : goal.overflow_add-limit
 overflow_add-limit c = record { fits = omega (arith, c.requires.1) }
@@ -36,23 +27,23 @@ overflow_cast-n c = record { fits = omega (arith, c.requires.1) }
 pub loop-n-init : goal.loop-n-init
 loop-n-init c = (omega (arith, c.requires.0.low), omega (arith, c.requires.1), λ E h. h)
 
-begun : (c : goal.At-loop-n) → Begun c.args.s
-begun c = c.requires.0
-
 pub next_terms-t-requires : goal.next_terms-t-requires
 next_terms-t-requires c =
+    let e = c.numbers_of-w.ensures in
+    let h = c.loop-n.invariant.2 c.args.s.encounter (start_holds c.args.s c.requires.0 e.0 e.1 e.2 e.3) in
     let l = c.loop-n in
     let n : l.n < largest_order = omega (arith, l.invariant.1, c.loop-n-test.true) in
-    (n, letters_held (begun c.before) (holds c.before), terms_held (begun c.before) (holds c.before) n)
+    (n, letters_held c.requires.0 h, terms_held c.requires.0 h n)
 
 pub overflow_add-n : goal.overflow_add-n
 overflow_add-n c = record { fits = omega (arith, c.loop-n.invariant.1, c.loop-n-test.true) }
 
 pub next_tail-d-requires : goal.next_tail-d-requires
 next_tail-d-requires c =
-    let a = c.before.before in
-    let n : a.loop-n.n < largest_order = omega (arith, a.loop-n.invariant.1, c.loop-n-test.true) in
-    (omega (arith, n), bound_held (begun a) (holds a), tail_held (begun a) (holds a) n)
+    let e = c.numbers_of-w.ensures in
+    let h = c.loop-n.invariant.2 c.args.s.encounter (start_holds c.args.s c.requires.0 e.0 e.1 e.2 e.3) in
+    let n : c.loop-n.n < largest_order = omega (arith, c.loop-n.invariant.1, c.loop-n-test.true) in
+    (omega (arith, n), bound_held c.requires.0 h, tail_held c.requires.0 h n)
 
 pub overflow_add-n-in-loop-n : goal.overflow_add-n-in-loop-n
 overflow_add-n-in-loop-n c = record { fits = omega (arith, c.loop-n.invariant.1, c.loop-n-test.true) }
@@ -66,16 +57,26 @@ loop-n-preserved c =
     (omega (arith, c.loop-n-test.true), l.invariant.1, λ E h. next_holds E l.n (l.invariant.2 E h) c.next_terms-t.ensures c.next_tail-d.ensures)
 
 pub side_terms-lower-requires : goal.side_terms-lower-requires
-side_terms-lower-requires c = let a = c.before in terms_held (begun a) (holds a) (omega (arith, a.loop-n.invariant.0, a.loop-n.invariant.1)) false
+side_terms-lower-requires c =
+    let e = c.numbers_of-w.ensures in
+    let h = c.loop-n.invariant.2 c.args.s.encounter (start_holds c.args.s c.requires.0 e.0 e.1 e.2 e.3) in
+    terms_held c.requires.0 h (omega (arith, c.loop-n.invariant.0, c.loop-n.invariant.1)) false
 
 pub side_terms-upper-requires : goal.side_terms-upper-requires
-side_terms-upper-requires c = let a = c.before.before in terms_held (begun a) (holds a) (omega (arith, a.loop-n.invariant.0, a.loop-n.invariant.1)) true
+side_terms-upper-requires c =
+    let e = c.numbers_of-w.ensures in
+    let h = c.loop-n.invariant.2 c.args.s.encounter (start_holds c.args.s c.requires.0 e.0 e.1 e.2 e.3) in
+    terms_held c.requires.0 h (omega (arith, c.loop-n.invariant.0, c.loop-n.invariant.1)) true
 
 pub narrowed-d-requires : goal.narrowed-d-requires
-narrowed-d-requires c = let a = c.before.before.before in widen (lit≤ tt) (tail_held (begun a) (holds a) (omega (arith, a.loop-n.invariant.0, a.loop-n.invariant.1)))
+narrowed-d-requires c =
+    let e = c.numbers_of-w.ensures in
+    let h = c.loop-n.invariant.2 c.args.s.encounter (start_holds c.args.s c.requires.0 e.0 e.1 e.2 e.3) in
+    widen (lit≤ tt) (tail_held c.requires.0 h (omega (arith, c.loop-n.invariant.0, c.loop-n.invariant.1)))
 
 pub returns : goal.returns
 returns c =
-    let a = c.before.before.before.before in
-    let e : a.loop-n.n ≡ a.args.s.N + a.args.count - 1 = omega (arith, a.loop-n.invariant.0, c.loop-n-test.false) in
-    holds_progress a.args.s.encounter a.loop-n.n (holds a) c.side_terms-lower.ensures c.side_terms-upper.ensures c.narrowed-d.ensures ∙ ap (progress a.args.s.encounter) e
+    let e = c.numbers_of-w.ensures in
+    let h = c.loop-n.invariant.2 c.args.s.encounter (start_holds c.args.s c.requires.0 e.0 e.1 e.2 e.3) in
+    let n : c.loop-n.n ≡ c.args.s.N + c.args.count - 1 = omega (arith, c.loop-n.invariant.0, c.loop-n-test.false) in
+    holds_progress c.args.s.encounter c.loop-n.n h c.side_terms-lower.ensures c.side_terms-upper.ensures c.narrowed-d.ensures ∙ ap (progress c.args.s.encounter) n

@@ -1,14 +1,7 @@
-use mathlib.Core.Path.{◌≡◌, ◌∙◌, ap}
-use mathlib.Core.Bool.{true, false}
-use Prim.Native.Nat.{◌+◌, ◌-◌, ◌≤◌, ◌<◌}
-use native.Mathlib.Omega.{arith}
-use lib.Dec.{lit≤}
+use Prim.Native.Nat.{◌-◌, ◌≤◌, ◌<◌}
 use Rattle.exact.specs.Numbers.{largest_order}
 use Rattle.exact.specs.declared.Encounter.{Encounter}
-use Rattle.exact.proofs.Ranges.{widen}
-use Rattle.encounter.specs.Private.Held.{progress, Begun}
-use Rattle.encounter.proofs.steps.Progressing.{Holds, start_holds, letters_held, bound_held, terms_held, tail_held, next_holds, holds_progress}
-use borrow.Author.Rules.{rules}
+use Rattle.encounter.proofs.steps.Progressing.{Holds}
 use Rattle.encounter.proofs.steps.progress.advance.Given as goal
 
 -- of which encounter the numbers before the loop are, at n₀, of that the loop's are, at n

@@ -1,7 +1,6 @@
 use mathlib.Core.Path.{◌∙◌}
 use mathlib.Core.Bool.{true, false}
 use Rattle.encounter.proofs.steps.Pairs.{by_side}
-use borrow.Author.Rules.{rules}
 use Rattle.encounter.proofs.steps.sides.overs_by.Goals as goal
 
 pub over_by-below-requires : goal.over_by-below-requires

@@ -5,7 +5,6 @@ use lib.Dec.{lit≤}
 use Rattle.exact.specs.Steps.{next_d}
 use Rattle.exact.proofs.Exponents.{in_range}
 use Rattle.exact.proofs.Ranges.{widen}
-use borrow.Author.Rules.{rules}
 use Rattle.encounter.proofs.steps.terms.first_tail.Goals as goal
 
 pub next_tail-requires : goal.next_tail-requires

@@ -6,7 +6,6 @@ use Rattle.exact.specs.Arithmetic.{rounded}
 use Rattle.exact.specs.Steps.{next_d}
 use Rattle.exact.proofs.Ranges.{widen}
 use Rattle.encounter.proofs.arithmetic.Fitting.{product_of}
-use borrow.Author.Rules.{rules}
 use Rattle.encounter.proofs.steps.terms.next_tail.Goals as goal
 
 pub over-r-requires : goal.over-r-requires

@@ -65,16 +65,15 @@ pub overflow_mul-n : goal.overflow_mul-n
 overflow_mul-n c = record { fits = omega (arith, divisor_max c.args.n c.requires.0) }
 
 pub overs-requires : goal.overs-requires
-overs-requires c =
-    (
-      (λ up.
-          let a = first-in up (c.sums-a.ensures up) (c.requires.2 up).p (half_of (c.halves.ensures up) (hv-in up (c.requires.3 up) (c.requires.1 up).h (c.requires.2 up).v)) in
-          let b = more-in up (largest_exponent + 423) (lit≤ tt) (c.products.ensures up) (c.sums-b.ensures up) (c.requires.1 up).X (c.requires.2 up).y a in
-          let all = more-in up (largest_exponent + 425) (lit≤ tt) (c.products-2.ensures up) (c.sums-all.ensures up) (c.requires.1 up).Y (c.requires.2 up).c b in
-          widen (lit≤ tt) all),
-      divisor_low c.args.n,
-      divisor_max c.args.n c.requires.0,
-    )
+overs-requires c = (
+  (λ up.
+      let a = first-in up (c.sums-a.ensures up) (c.requires.2 up).p (half_of (c.halves.ensures up) (hv-in up (c.requires.3 up) (c.requires.1 up).h (c.requires.2 up).v)) in
+      let b = more-in up (largest_exponent + 423) (lit≤ tt) (c.products.ensures up) (c.sums-b.ensures up) (c.requires.1 up).X (c.requires.2 up).y a in
+      let all = more-in up (largest_exponent + 425) (lit≤ tt) (c.products-2.ensures up) (c.sums-all.ensures up) (c.requires.1 up).Y (c.requires.2 up).c b in
+      widen (lit≤ tt) all),
+  divisor_low c.args.n,
+  divisor_max c.args.n c.requires.0,
+)
 
 pub returns : goal.returns
 unfolding next_c rounded

@@ -8,7 +8,6 @@ use Rattle.exact.proofs.Ranges.{widen}
 use Rattle.exact.proofs.Growth.{c_in}
 use Rattle.exact.proofs.Exponents.{in_range}
 use Rattle.encounter.proofs.arithmetic.Fitting.{product_of}
-use borrow.Author.Rules.{rules}
 use Rattle.encounter.proofs.steps.terms.next_terms.Goals as goal
 
 pub products-hv-requires : goal.products-hv-requires
@@ -25,22 +24,20 @@ unfolding rounded
 next_term-c-requires c = (c.requires.0, c.requires.1, c.requires.2, c.products-hv.ensures)
 
 pub next_product-p-requires : goal.next_product-p-requires
-next_product-p-requires c =
-    (
-      c.reciprocal_of-by.ensures.1,
-      (λ up. (c.requires.1 up).u),
-      (λ up. rw (c.next_term-c.ensures up) (widen (lit≤ tt) (c_in (in_range up) _ (c.requires.1 up) largest_exponent c.args.n c.requires.0 (c.requires.2 up)))),
-      (λ up. (c.requires.2 up).p),
-    )
+next_product-p-requires c = (
+  c.reciprocal_of-by.ensures.1,
+  (λ up. (c.requires.1 up).u),
+  (λ up. rw (c.next_term-c.ensures up) (widen (lit≤ tt) (c_in (in_range up) _ (c.requires.1 up) largest_exponent c.args.n c.requires.0 (c.requires.2 up)))),
+  (λ up. (c.requires.2 up).p),
+)
 
 pub next_v_and_y-w-requires : goal.next_v_and_y-w-requires
-next_v_and_y-w-requires c =
-    (
-      c.reciprocal_of-by.ensures.1,
-      (λ up. rw (c.next_term-c.ensures up) (c_in (in_range up) _ (c.requires.1 up) largest_exponent c.args.n c.requires.0 (c.requires.2 up))),
-      (λ up. widen (lit≤ tt) (product_of up (c.products-hv.ensures up) (c.requires.1 up).h (c.requires.2 up).v)),
-      (λ up. widen (lit≤ tt) (product_of up (c.products-hy.ensures up) (c.requires.1 up).h (c.requires.2 up).y)),
-    )
+next_v_and_y-w-requires c = (
+  c.reciprocal_of-by.ensures.1,
+  (λ up. rw (c.next_term-c.ensures up) (c_in (in_range up) _ (c.requires.1 up) largest_exponent c.args.n c.requires.0 (c.requires.2 up))),
+  (λ up. widen (lit≤ tt) (product_of up (c.products-hv.ensures up) (c.requires.1 up).h (c.requires.2 up).v)),
+  (λ up. widen (lit≤ tt) (product_of up (c.products-hy.ensures up) (c.requires.1 up).h (c.requires.2 up).y)),
+)
 
 pub sums-sum-requires : goal.sums-sum-requires
 sums-sum-requires c =

@@ -2,7 +2,6 @@ use native.Mathlib.Omega.{arith}
 use lib.Dec.{lit≤}
 use Rattle.exact.proofs.Ranges.{widen}
 use Rattle.exact.proofs.Exponents.{in_range}
-use borrow.Author.Rules.{rules}
 use Rattle.encounter.proofs.steps.terms.next_v_and_y.Goals as goal
 
 pub next_weighted-v-requires : goal.next_weighted-v-requires
