@@ -1,4 +1,6 @@
 // Request #106 of document 02: the order that a session is advised to be summed to.
+#![tactic(auto)]
+
 ghost use Rattle.std.specs.Prelude.{◌≡◌};
 ghost use Rattle.encounter.specs.Calls.{Reached};
 ghost use Rattle.advice.specs.Orders.{Orders};

@@ -1,4 +1,6 @@
 // Request #107 of document 02: the division of a scaled number by a whole number, for everyone.
+#![tactic(auto)]
+
 ghost use Rattle.std.specs.Prelude.{◌≡◌, ltb, eqb, nat_abs, ◌+ℤ◌};
 ghost use Rattle.std.specs.Int.{w32};
 ghost use Rattle.std.proofs.Common.{SFits};

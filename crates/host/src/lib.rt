@@ -1,4 +1,6 @@
 // Request #108 of document 02: both ends of a read as doubles, and the record that the plotting tool stores.
+#![tactic(auto)]
+
 ghost use Rattle.std.specs.Prelude.{◌≡◌};
 ghost use Rattle.encounter.specs.Calls.{reads, call, Reached};
 ghost use Rattle.host.specs.Doubles.{in_doubles, doubles, Says};

@@ -1,4 +1,6 @@
 // The call of a script's record.
+#![tactic(auto)]
+
 ghost use Rattle.std.specs.Prelude.{◌≡◌, ◌+◌, ◌≤◌, length};
 ghost use Rattle.exact.specs.Records.{u16_at, begin_at, conjunction_at};
 ghost use Rattle.encounter.specs.Session.{refused};

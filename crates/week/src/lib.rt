@@ -1,4 +1,6 @@
 // Request #111 of document 02: a week of seven days of eight places, each empty or with the two ends of a read, and one figure for it.
+#![tactic(auto)]
+
 ghost use Rattle.std.specs.Prelude.{◌≡◌};
 ghost use Rattle.exact.specs.Refusals.{test_24};
 ghost use Rattle.encounter.specs.Calls.{Reached};

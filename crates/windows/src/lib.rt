@@ -1,4 +1,6 @@
 // Request #112 of document 02: when a burn may be flown.
+#![tactic(auto)]
+
 ghost use Rattle.std.specs.Prelude.{◌≡◌, ◌/◌, ◌<◌, length};
 ghost use Rattle.exact.specs.Refusals.{list_refusal};
 ghost use Rattle.windows.specs.Windows.{windows_of, latest_in, latest_by, latest_burn, Says};

@@ -1,0 +1,6 @@
+use borrow.Author.Rules.{rules}
+use Rattle.advice.proofs.Advising.{claims}
+use Rattle.advice.proofs.orders.Goals as goal
+
+pub returns : goal.returns
+returns c = (c.orders.ensures, claims c.orders.ensures)
