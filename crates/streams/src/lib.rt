@@ -1,10 +1,12 @@
 // A script from standard input, and what writing to standard output came to.
+#![tactic(auto)]
+
 ghost use Rattle.std.specs.Prelude.{◌<◌, length};
 ghost use Rattle.exact.specs.Numbers.{largest_script};
 ghost use Rattle.streams.specs.Reading.{ReadInto, ScriptIn};
 
 use exact::LARGEST_SCRIPT;
-use libc::{EINTR, STDIN_FILENO};
+use std::io::{ErrorKind, Read};
 
 // The bytes kept for a script: one more than it may have, so that a script that fills them is too long.
 pub const KEPT: usize = LARGEST_SCRIPT + 1;
@@ -26,32 +28,31 @@ pub enum Output {
     Failed,
 }
 
-// One read of standard input, of no bytes where that is at its end. An interrupted read is tried again; where every try is interrupted, it failed.
-fn read_some(buf: &mut [u8]) -> Input
+// One read, of no bytes where the input is at its end. An interrupted read is tried again; where every try is interrupted, it failed.
+fn read_some<R: Read>(input: &mut R, buf: &mut [u8]) -> Input
     ensures { ReadInto buf.new result }
 {
-    let mut tries = TRIES;
-    while 0 < tries {
-        let got = libc::read(STDIN_FILENO, buf);
-        if 0 <= got {
-            return Input::Bytes(io::count(got, buf));
+    for _ in 0..TRIES {
+        match input.read(buf) {
+            Ok(n) => return Input::Bytes(n),
+            Err(e) => {
+                if e.kind() != ErrorKind::Interrupted {
+                    return Input::Failed;
+                }
+            }
         }
-        if os::errno() != EINTR {
-            return Input::Failed;
-        }
-        tries -= 1;
     }
     Input::Failed
 }
 
-// Reads up to the end of standard input, or up to the buffer's.
-fn fill(buf: &mut [u8]) -> Input
+// Reads up to the end of the input, or up to the buffer's.
+fn fill<R: Read>(input: &mut R, buf: &mut [u8]) -> Input
     requires { largest_script < length buf.old }
     ensures { ScriptIn buf.new result }
 {
     let mut done: usize = 0;
     while done < buf.len() {
-        let Input::Bytes(n) = read_some(&mut buf[done..]) else {
+        let Input::Bytes(n) = read_some(input, &mut buf[done..]) else {
             return Input::Failed;
         };
         if n == 0 {
@@ -63,8 +64,8 @@ fn fill(buf: &mut [u8]) -> Input
 }
 
 // Reads the script.
-pub fn read_script(buf: &mut [u8; KEPT]) -> Input
+pub fn read_script<R: Read>(input: &mut R, buf: &mut [u8; KEPT]) -> Input
     ensures { ScriptIn buf.new result }
 {
-    fill(buf)
+    fill(input, buf)
 }
