@@ -3,7 +3,7 @@
 
 ghost use Rattle.std.specs.Prelude.{◌<◌, length};
 ghost use Rattle.exact.specs.Numbers.{largest_script};
-ghost use Rattle.streams.specs.Reading.{ReadInto, ScriptIn};
+ghost use Rattle.streams.specs.Reading.{AllBytes, NextBytes, ReadInto, ScriptIn};
 
 use exact::LARGEST_SCRIPT;
 use std::io::{ErrorKind, Read};
@@ -30,7 +30,8 @@ pub enum Output {
 
 // One read, of no bytes where the input is at its end. An interrupted read is tried again; where every try is interrupted, it failed.
 fn read_some<R: Read>(input: &mut R, buf: &mut [u8]) -> Input
-    ensures { ReadInto buf.new result }
+    ensures within { ReadInto buf.new result }
+    ensures bytes { NextBytes (R.remaining input.old) (R.remaining input.new) buf.new result }
 {
     for _ in 0..TRIES {
         match input.read(buf) {
@@ -48,7 +49,8 @@ fn read_some<R: Read>(input: &mut R, buf: &mut [u8]) -> Input
 // Reads up to the end of the input, or up to the buffer's.
 fn fill<R: Read>(input: &mut R, buf: &mut [u8]) -> Input
     requires { largest_script < length buf.old }
-    ensures { ScriptIn buf.new result }
+    ensures within { ScriptIn buf.new result }
+    ensures bytes { AllBytes (R.remaining input.old) (R.remaining input.new) buf.new result }
 {
     let mut done: usize = 0;
     while done < buf.len() {
@@ -65,7 +67,8 @@ fn fill<R: Read>(input: &mut R, buf: &mut [u8]) -> Input
 
 // Reads the script.
 pub fn read_script<R: Read>(input: &mut R, buf: &mut [u8; KEPT]) -> Input
-    ensures { ScriptIn buf.new result }
+    ensures within { ScriptIn buf.new result }
+    ensures bytes { AllBytes (R.remaining input.old) (R.remaining input.new) buf.new result }
 {
     fill(input, buf)
 }
