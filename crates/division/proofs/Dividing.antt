@@ -26,7 +26,7 @@ use Rattle.division.proofs.Moving.{moved, moves, still_fits}
 use Rattle.division.proofs.Never.{never_met}
 use Rattle.division.proofs.Ends.{divides_ends}
 
-claims : Claims
+pub claims : Claims
 claims = record { form = λ x. (form_is x, form_of x); never_met = never_met; ends = λ r k p. divides_ends r k p }
 
 -- all that `divide` promises of its answer r

@@ -23,7 +23,7 @@ returns-then-kind-eq2 c =
     answered c.args.script.now c.args.at c.args.s c.requires (add _) (c.args.at + 3) _ (add_whole _ _ c.if-script-at.false c.if-kind-eq2.true c.if-left-lt3.false) c.take_add.ensures
 
 pub returns-then-kind-eq3 : goal.returns-then-kind-eq3
-returns-then-kind-eq3 c = read_at c.args.script.now c.args.at c.args.s c.requires (c.args.at + 1) _ (a_read _ _ c.if-script-at.false c.if-kind-eq3.true) c.read-answer.ensures.0
+returns-then-kind-eq3 c = read_at c.args.script.now c.args.at c.args.s c.requires (c.args.at + 1) _ (a_read _ _ c.if-script-at.false c.if-kind-eq3.true) c.read-answer.ensures.value
 
 pub returns-then-left-lt29 : goal.returns-then-left-lt29
 returns-then-left-lt29 c = stopped c.args.script.now c.args.at c.args.s c.requires 2 _ (λ e. omega arith) (conjunction_short _ _ c.if-script-at.false c.if-kind-eq4.true c.if-left-lt29.true) c.stop-then-left-lt29.ensures

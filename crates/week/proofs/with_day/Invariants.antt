@@ -1,0 +1,18 @@
+use mathlib.Core.Path.{◌≡◌, refl, ap, ◌∙◌}
+use mathlib.Core.List.{foldl}
+use Prim.Native.Nat.{◌≤◌, ◌-◌}
+use native.Mathlib.Omega.{arith}
+use lib.ListN.{length, take}
+use lib.Seq.{take_all}
+use borrow.Author.Rules.{rules}
+use Rattle.exact.specs.Numbers.{places_a_day}
+use Rattle.week.specs.Private.Walk.{with_place}
+use Rattle.week.proofs.Folding.{fold_turn}
+use Rattle.week.proofs.with_day.Given as goal
+
+-- p places are gathered
+abbrev pub invariant-loop-p : goal.invariant-loop-p
+invariant-loop-p w = (w.p ≤ places_a_day) × (length w.day ≡ places_a_day) × (w.r ≡ foldl with_place w.initial.r (take w.p w.day))
+
+abbrev pub decreases-loop-p : goal.decreases-loop-p
+decreases-loop-p w = places_a_day - w.p

@@ -1,0 +1,11 @@
+use Rattle.windows.proofs.latest_by.Reads as reads
+use Rattle.windows.proofs.latest_by.Lts as lts
+use Rattle.windows.proofs.latest_in.Reads as latest_in_reads
+use Rattle.windows.proofs.window_at.Reads as window_at_reads
+use Rattle.windows.proofs.latest_by.Given as goal
+
+abbrev pub invariant-loop-i : goal.invariant-loop-i
+invariant-loop-i w = ?
+
+abbrev pub decreases-loop-i : goal.decreases-loop-i
+decreases-loop-i w = ?
