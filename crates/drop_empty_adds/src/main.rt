@@ -1,4 +1,6 @@
 // drop_empty_adds: copies a script from standard input to standard output without its adds of count 0.
+#![tactic(auto)]
+
 ghost use Rattle.streams.specs.Writing.{Handed};
 ghost use Rattle.drop_empty_adds.specs.Dropping.{dropped};
 
@@ -6,15 +8,15 @@ mod dropping;
 
 use crate::dropping::drop_empty_adds;
 use exact::LARGEST_SCRIPT;
-use libc::{STDERR_FILENO, STDOUT_FILENO};
+use std::io::Write;
 use streams::{Input, KEPT, Output, read_script};
 
 // Writes the new script; of one that is too long, nothing.
-fn run(script: &mut [u8]) -> Output
+fn run<W: Write>(output: &mut W, script: &mut [u8]) -> Output
     ensures { Handed (dropped script.old) result }
 {
     let n = drop_empty_adds(script);
-    if io::write_all(STDOUT_FILENO, &script[..n]) {
+    if output.write_all(&script[..n]).is_ok() {
         Output::Written(n)
     } else {
         Output::Failed
@@ -22,23 +24,30 @@ fn run(script: &mut [u8]) -> Output
 }
 
 // Writes a line to standard error; whether that succeeds is not looked at.
-fn say(line: &[u8]) {
-    io::write_all(STDERR_FILENO, line);
+fn say<W: Write>(error: &mut W, line: &[u8]) {
+    let _ = error.write_all(line);
 }
 
-fn main() {
+fn main(rt: HostRuntime) {
     let mut script = [0u8; KEPT];
-    let Input::Bytes(n) = read_script(&mut script) else {
-        say(b"drop_empty_adds: the script could not be read\n");
+    let Input::Bytes(n) = read_script(&mut rt.stdin(), &mut script) else {
+        say(
+            &mut rt.stderr(),
+            b"drop_empty_adds: the script could not be read\n",
+        );
         return;
     };
     if LARGEST_SCRIPT < n {
         say(
+            &mut rt.stderr(),
             b"drop_empty_adds: the script is longer than 65,536 bytes (refusal 8): nothing was written\n",
         );
     }
-    let Output::Written(_) = run(&mut script[..n]) else {
-        say(b"drop_empty_adds: the new script could not be written\n");
+    let Output::Written(_) = run(&mut rt.stdout(), &mut script[..n]) else {
+        say(
+            &mut rt.stderr(),
+            b"drop_empty_adds: the new script could not be written\n",
+        );
         return;
     };
 }

@@ -1,4 +1,6 @@
 // screen: runs a script from standard input and writes what document 01 says of it.
+#![tactic(auto)]
+
 ghost use Rattle.std.specs.Prelude.{◌≤◌, length};
 ghost use Rattle.encounter.specs.Calls.{Reached};
 ghost use Rattle.listing.specs.Listing.{printed};
@@ -7,8 +9,8 @@ ghost use Rattle.screen.specs.Printing.{NextOf};
 
 use encounter::state::Session;
 use exact::LARGEST_SCRIPT;
-use libc::{STDERR_FILENO, STDOUT_FILENO};
 use listing::script::{Piece, put_lines, put_too_long};
+use std::io::Write;
 use streams::{Input, KEPT, Output, read_script};
 
 // The bytes of a piece of the listing.
@@ -32,15 +34,15 @@ fn put_piece(script: &[u8], at: usize, s: Session, out: &mut [u8; PIECE]) -> Pie
 }
 
 // Writes the first bytes of the buffer, and answers whether all of them were written.
-fn write_out(out: &[u8; PIECE], used: usize) -> bool
+fn write_out<W: Write>(output: &mut W, out: &[u8; PIECE], used: usize) -> bool
     requires { used ≤ length out.now }
 {
     let all: &[u8] = out;
-    io::write_all(STDOUT_FILENO, &all[..used])
+    output.write_all(&all[..used]).is_ok()
 }
 
 // Writes what is printed for the script, piece by piece, up to a piece that could not be written.
-fn run(script: &[u8]) -> Output
+fn run<W: Write>(output: &mut W, script: &[u8]) -> Output
     ensures { Handed (printed script.now) result }
 {
     let mut out = [0u8; PIECE];
@@ -50,7 +52,7 @@ fn run(script: &[u8]) -> Output
     loop {
         let piece = put_piece(script, at, session, &mut out);
         let used = piece.used;
-        if !write_out(&out, used) {
+        if !write_out(output, &out, used) {
             return Output::Failed;
         }
         done += used;
@@ -63,18 +65,21 @@ fn run(script: &[u8]) -> Output
 }
 
 // Writes a line to standard error; whether that succeeds is not looked at.
-fn say(line: &[u8]) {
-    io::write_all(STDERR_FILENO, line);
+fn say<W: Write>(error: &mut W, line: &[u8]) {
+    let _ = error.write_all(line);
 }
 
-fn main() {
+fn main(rt: HostRuntime) {
     let mut script = [0u8; KEPT];
-    let Input::Bytes(n) = read_script(&mut script) else {
-        say(b"screen: the script could not be read\n");
+    let Input::Bytes(n) = read_script(&mut rt.stdin(), &mut script) else {
+        say(&mut rt.stderr(), b"screen: the script could not be read\n");
         return;
     };
-    let Output::Written(_) = run(&script[..n]) else {
-        say(b"screen: the listing could not be written\n");
+    let Output::Written(_) = run(&mut rt.stdout(), &script[..n]) else {
+        say(
+            &mut rt.stderr(),
+            b"screen: the listing could not be written\n",
+        );
         return;
     };
 }
