@@ -1,6 +1,5 @@
 -- The upper M of an accepted encounter, and the session's field.
 use mathlib.Core.Path.{◌≡◌, ap}
-use mathlib.Core.Bool.{true}
 use Prim.Native.Nat.{◌<◌}
 use native.Mathlib.Nat.{mul-pos}
 use lib.Ieee.Positive.{first_pos}

@@ -1,11 +1,11 @@
 -- Both ends of an accepted read are divided by every whole number above 0, and the quotients enclose what the ends enclose, divided.
 use mathlib.Core.Path.{◌≡◌}
 use mathlib.Core.Bool.{Bool, true, false}
-use Prim.Native.Nat.{ℕ, ◌≤◌, ◌<◌}
+use Prim.Native.Nat.{ℕ, ◌<◌}
 use native.Mathlib.Omega.{arith}
 use lib.Dec.{lit<, lit≤}
 use Rattle.exact.specs.declared.Scaled.{Scaled}
-use Rattle.exact.specs.Fraction.{Frac, ◌≼◌, ◌÷◌}
+use Rattle.exact.specs.Fraction.{Frac, ◌÷◌}
 use Rattle.exact.specs.Scaled.{value, OnSide}
 use Rattle.exact.specs.Refusals.{refuses_10}
 use Rattle.exact.proofs.Fractions.{≼_trans, div_mono}

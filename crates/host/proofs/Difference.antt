@@ -6,7 +6,7 @@ use native.Mathlib.Nat.{mul_comm, mul-pos, le_of_mul-le-mul_right}
 use native.Mathlib.Omega.{arith}
 use borrow.Author.Tests.{le-ltb}
 use lib.IntN.{ℤ}
-use lib.Ieee.{Float, nan, inf, fin, binary64, up, down, round, neg, add, sum, sub}
+use lib.Ieee.{Float, nan, inf, fin, binary64, up, down, neg, add, sum, sub}
 use lib.Ieee.Fits.{down_pos}
 use Rattle.exact.specs.Fraction.{Frac, ◌≼◌, ◌≈◌, ◌⊕◌}
 use Rattle.exact.proofs.Fractions.{≼_trans, ≼_of, ≽_of, ≈_trans, ≈_sym, add_cong, ≈_refl}

@@ -3,7 +3,7 @@ use mathlib.Core.Path.{refl}
 use mathlib.Core.List.{List, [], ◌∷◌}
 use Rattle.exact.specs.Refusals.{History}
 use Rattle.encounter.specs.declared.state.Session.{Session}
-use Rattle.encounter.specs.Calls.{Reached, from_empty, after}
+use Rattle.encounter.specs.Calls.{Reached, from_empty, after, call, follow, asked}
 use Rattle.encounter.specs.Enclosure.{place, Every}
 use Rattle.encounter.proofs.calls.Invariant.{Whole, nothing, keeps, claim}
 use Rattle.host.specs.Lists.{HostCall, library, reads_doubles, reads_plot_record, counts_as, reply, host_places, Tells, HostClaim, HostDemands}
@@ -18,7 +18,10 @@ module _ {s : Session} (r : Reached s) (w : History) where
 every : {s : Session} {w : History} → Reached s → Whole s w → (cs : List HostCall) → Every HostClaim (host_places s w cs)
 unfolding host_places
 every r h [] = tt
-every {w = w} r h (c ∷ cs) = (record { claim = claim h (counts_as c); tells = tells r w c }, every (after r (counts_as c)) (keeps h (counts_as c)) cs)
+every {s = s} {w = w} r h (c ∷ cs) = (
+  record { claim = claim h (counts_as c); tells = tells r w c },
+  every {s = (call (counts_as c) s).session} {w = follow w (asked (counts_as c))} (after r (counts_as c)) (keeps h (counts_as c)) cs,
+)
 
 pub host_demands : HostDemands
 unfolding HostDemands

@@ -1,4 +1,6 @@
 // The text of a line of a listing, and the listing of a script in pieces.
+#![tactic(auto)]
+
 ghost use Rattle.std.specs.Prelude.{◌≡◌, ◌++◌, nat_abs};
 ghost use Rattle.exact.specs.Decimals.{decimal_of};
 ghost use Rattle.listing.specs.Line.{number_text, integer, scaled_text, class_text, ends_and_class, last_digit, decimal_text, ends_in_decimal, object_and_time, added_fields, read_text, is_begin, outcome_text, line};

@@ -1,5 +1,5 @@
 -- The claims.
-use mathlib.Core.Path.{◌≡◌, refl, ap, ◌∙◌}
+use mathlib.Core.Path.{◌≡◌, refl, ◌∙◌}
 use mathlib.Core.Bool.{true}
 use mathlib.Core.List.{List, [], ◌∷◌, map, flatten, map-map, cons-ne-nil}
 use Rattle.exact.specs.Fraction.{Frac}

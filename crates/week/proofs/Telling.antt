@@ -1,17 +1,16 @@
 -- Every week from these calls is the one that its entries tell, and every read that they tell was accepted.
 use mathlib.Core.Path.{◌≡◌, refl, sym, ap, ◌∙◌, subst}
 use mathlib.Core.Bool.{Bool, true, false}
-use mathlib.Core.List.{List, [], ◌∷◌, ◌++◌, map}
+use mathlib.Core.List.{List, [], ◌∷◌, ◌++◌}
 use mathlib.Core.Logic.{⊎_elim}
-use Prim.Native.Nat.{ℕ, ◌+◌, ◌^◌, ◌≤◌, ◌<◌}
+use Prim.Native.Nat.{ℕ, ◌^◌, ◌≤◌, ◌<◌}
 use native.Mathlib.Omega.{arith}
 use borrow.Author.Tests.{eqb-true, eqb-false, ne_eqb}
 use lib.Dec.{eqb, lit≤}
 use lib.ListN.{length, set, length-set, length-append}
 use Rattle.exact.specs.declared.Conjunction.{Conjunction}
 use Rattle.exact.specs.Numbers.{days_a_week, places_a_day}
-use Rattle.exact.specs.Records.{read}
-use Rattle.exact.specs.Refusals.{History, no_encounter, encounter_at, refusal, entry_refusal}
+use Rattle.exact.specs.Refusals.{History, no_encounter, encounter_at, entry_refusal}
 use Rattle.exact.specs.Steps.{lower_end, upper_end}
 use Rattle.exact.specs.Private.Ranges.{InRange}
 use Rattle.exact.proofs.Fractions.{lt_or_le}

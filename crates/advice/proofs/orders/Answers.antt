@@ -1,4 +1,3 @@
-use borrow.Author.Rules.{rules}
 use Rattle.advice.proofs.Advising.{claims}
 use Rattle.advice.proofs.orders.Goals as goal
 

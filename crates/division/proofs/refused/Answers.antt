@@ -1,10 +1,7 @@
-use mathlib.Core.Path.{◌≡◌, ap, ◌∙◌}
-use mathlib.Core.Bool.{Bool, not}
 use native.Mathlib.Omega.{arith}
 use mir.Facts.{to_z-of_z}
 use mir.Syntax.{w32}
 use mir.Val.{SFits}
-use borrow.Author.Rules.{rules}
 use Rattle.exact.specs.Scaled.{Normal}
 use Rattle.division.proofs.Refusing.{by_zero, of_zero, of_small, of_normal}
 use Rattle.division.proofs.refused.Goals as goal

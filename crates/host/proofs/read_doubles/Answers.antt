@@ -7,4 +7,4 @@ pub ends_of-requires : goal.ends_of-requires
 ends_of-requires c = search (fit, rules)
 
 pub returns : goal.returns
-returns c = (read_doubles_is c.requires c.read.ensures.0 c.ends_of.ensures, host_demands)
+returns c = record { value = read_doubles_is c.requires c.read.ensures.value c.ends_of.ensures; demands = host_demands }

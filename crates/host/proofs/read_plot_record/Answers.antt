@@ -6,4 +6,4 @@ pub ends_of-requires : goal.ends_of-requires
 ends_of-requires c = search (fit, rules)
 
 pub returns : goal.returns
-returns c = read_plot_record_is c.requires c.read-a.ensures.0 c.ends_of.ensures c.record_of.ensures
+returns c = read_plot_record_is c.requires c.read-a.ensures.value c.ends_of.ensures c.record_of.ensures

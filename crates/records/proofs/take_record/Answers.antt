@@ -2,7 +2,6 @@ use Prim.Native.Nat.{◌+◌}
 use native.Mathlib.Omega.{arith}
 use Rattle.exact.specs.Records.{begin, begin_conjunction, add}
 use Rattle.records.proofs.Requests.{no_byte, begin_short, begin_whole, add_short, add_whole, a_read, conjunction_short, conjunction_whole, no_kind, stopped, answered, read_at}
-use borrow.Author.Rules.{rules}
 use Rattle.records.proofs.take_record.Goals as goal
 
 pub returns-then-script-at : goal.returns-then-script-at

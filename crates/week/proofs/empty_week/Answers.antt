@@ -1,5 +1,4 @@
 use mathlib.Core.Path.{◌≡◌, sym, subst}
-use borrow.Author.Rules.{rules}
 use Rattle.week.specs.Week.{Week, empty_week}
 use Rattle.week.specs.Told.{FromCalls, nothing_told, from_empty}
 use Rattle.week.proofs.empty_week.Goals as goal

@@ -1,5 +1,4 @@
 use native.Mathlib.Omega.{arith}
-use borrow.Author.Rules.{rules}
 use Rattle.week.proofs.Entering.{refused_13, refused_later, room, put_in}
 use Rattle.week.proofs.enter.Goals as goal
 
@@ -8,16 +7,15 @@ returns-then-d-ge-DAYS_A_WEEK c = refused_13 c.requires.0 c.requires.1 c.args.da
 
 pub returns-then-r-ne0 : goal.returns-then-r-ne0
 returns-then-r-ne0 c =
-    let z = c.before.before in
-    refused_later z.requires.0 z.requires.1 z.args.day c.if-d-ge-DAYS_A_WEEK.false c.read-a.ensures.0 c.next_place-p.ensures c.test_entry-r.ensures (λ z. omega (arith, z, c.if-r-ne0.true))
+    refused_later c.requires.0 c.requires.1 c.args.day c.if-d-ge-DAYS_A_WEEK.false c.read-a.ensures.value c.next_place-p.ensures c.test_entry-r.ensures (λ z. omega (arith, z, c.if-r-ne0.true))
 
-pub UNKNOWN_index-2-w : goal.UNKNOWN_index-2-w
-index-2-w c =
-    room c.requires.0 c.requires.1 c.args.day c.if-d-ge-DAYS_A_WEEK.false c.read-a.ensures.0 c.next_place-p.ensures c.test_entry-r.ensures c.if-r-ne0.false
+pub bounds-w-p : goal.bounds-w-p
+bounds-w-p c =
+    room c.requires.0 c.requires.1 c.args.day c.if-d-ge-DAYS_A_WEEK.false c.read-a.ensures.value c.next_place-p.ensures c.test_entry-r.ensures c.if-r-ne0.false
 
 pub offset_bounds-w-p : goal.offset_bounds-w-p
-offset_bounds-w-p c = record { fits = omega (arith, index-2-w c) }
+offset_bounds-w-p c = record { fits = omega (arith, bounds-w-p c) }
 
 pub returns : goal.returns
 returns c =
-    put_in c.requires.0 c.requires.1 c.args.day c.if-d-ge-DAYS_A_WEEK.false c.read-a.ensures.0 c.next_place-p.ensures c.test_entry-r.ensures c.if-r-ne0.false c.ends_of.ensures
+    put_in c.requires.0 c.requires.1 c.args.day c.if-d-ge-DAYS_A_WEEK.false c.read-a.ensures.value c.next_place-p.ensures c.test_entry-r.ensures c.if-r-ne0.false c.ends_of.ensures

@@ -1,15 +1,10 @@
-use mathlib.Core.Path.{◌≡◌, ap}
-use Prim.Native.Nat.{◌≤◌, ◌+◌, ◌-◌}
+use mathlib.Core.Path.{ap}
 use native.Mathlib.Numerals.{add-one}
 use native.Mathlib.Omega.{arith}
-use lib.ListN.{length, drop, drop_of_length-le}
-use Rattle.exact.specs.Numbers.{places_a_day}
+use lib.ListN.{drop_of_length-le}
 use Rattle.week.specs.Week.{next_place}
 use Rattle.week.proofs.Places.{next_held, next_empty, next_none}
 use Rattle.week.proofs.next_place.Goals as goal
-
-pub loop-p-init : goal.loop-p-init
-loop-p-init c = (omega arith, c.well-formed.0.1.0.1, omega arith)
 
 pub offset_bounds-day-p : goal.offset_bounds-day-p
 offset_bounds-day-p c = omega arith
@@ -20,7 +15,7 @@ bounds-day-p c = omega arith
 pub returns-then-day-p-eq0 : goal.returns-then-day-p-eq0
 returns-then-day-p-eq0 c =
     let l = c.loop-p in
-    omega (arith, l.invariant.2, next_empty c.args.t1 l.p _ (omega arith) c.if-day-p-eq0.true)
+    omega (arith, l.invariant.2, next_empty c.args.day l.p _ (omega arith) c.if-day-p-eq0.true)
 
 pub overflow_add-p : goal.overflow_add-p
 overflow_add-p c = omega arith
@@ -31,10 +26,10 @@ loop-p-smaller c = omega arith
 pub loop-p-preserved : goal.loop-p-preserved
 loop-p-preserved c =
     let l = c.loop-p in
-    (omega arith, l.invariant.1, rw add-one (omega (arith, l.invariant.2, next_held c.args.t1 l.p _ (omega arith) c.if-day-p-eq0.false)))
+    (omega arith, l.invariant.1, rw add-one (omega (arith, l.invariant.2, next_held c.args.day l.p _ (omega arith) c.if-day-p-eq0.false)))
 
 pub returns : goal.returns
 returns c =
     let l = c.loop-p in
-    let day = c.args.t1 in
+    let day = c.args.day in
     omega (arith, l.invariant.2, ap next_place (drop_of_length-le day {i = l.p} (omega arith)), next_none)

@@ -1,11 +1,8 @@
-use mathlib.Core.Path.{◌≡◌, ap}
+use mathlib.Core.Path.{◌≡◌}
 use Prim.Native.Nat.{◌≤◌, ◌+◌, ◌-◌}
-use native.Mathlib.Numerals.{add-one}
-use native.Mathlib.Omega.{arith}
-use lib.ListN.{length, drop, drop_of_length-le}
+use lib.ListN.{length, drop}
 use Rattle.exact.specs.Numbers.{places_a_day}
 use Rattle.week.specs.Week.{next_place}
-use Rattle.week.proofs.Places.{next_held, next_empty, next_none}
 use Rattle.week.proofs.next_place.Given as goal
 
 -- the places before p are held

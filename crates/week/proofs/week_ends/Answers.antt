@@ -1,19 +1,12 @@
-use mathlib.Core.Path.{◌≡◌, refl, ap, ◌∙◌}
+use mathlib.Core.Path.{ap, ◌∙◌}
 use mathlib.Core.List.{foldl}
-use Prim.Native.Nat.{◌≤◌, ◌-◌}
 use native.Mathlib.Omega.{arith}
-use lib.ListN.{length, take}
 use lib.Seq.{take_all}
-use borrow.Author.Rules.{rules}
-use Rattle.exact.specs.Numbers.{days_a_week}
 use Rattle.week.specs.Private.Walk.{no_ends, with_day}
 use Rattle.week.proofs.Folding.{fold_turn}
 use Rattle.week.proofs.Walking.{walk_is}
 use Rattle.week.proofs.Claiming.{claims}
 use Rattle.week.proofs.week_ends.Goals as goal
-
-pub loop-d-init : goal.loop-d-init
-loop-d-init c = (omega arith, c.well-formed.0.1.0.1, refl)
 
 pub offset_bounds-week-d : goal.offset_bounds-week-d
 offset_bounds-week-d c = omega arith
@@ -30,9 +23,9 @@ loop-d-smaller c = omega arith
 pub loop-d-preserved : goal.loop-d-preserved
 loop-d-preserved c =
     let l = c.loop-d in
-    (omega arith, l.invariant.1, fold_turn with_day no_ends c.args.t1 l.d _ (omega arith) l.invariant.2 c.with_day-r.ensures)
+    (omega arith, l.invariant.1, fold_turn with_day no_ends c.args.week l.d _ (omega arith) l.invariant.2 c.with_day-r.ensures)
 
 pub returns : goal.returns
 returns c =
     let l = c.loop-d in
-    (l.invariant.2 ∙ ap (foldl with_day no_ends) (take_all l.d c.args.t1 (omega arith)) ∙ walk_is c.requires, claims)
+    record { value = l.invariant.2 ∙ ap (foldl with_day no_ends) (take_all l.d c.args.week (omega arith)) ∙ walk_is c.requires; claims = claims }

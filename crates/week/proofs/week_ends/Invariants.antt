@@ -1,15 +1,9 @@
-use mathlib.Core.Path.{◌≡◌, refl, ap, ◌∙◌}
+use mathlib.Core.Path.{◌≡◌}
 use mathlib.Core.List.{foldl}
 use Prim.Native.Nat.{◌≤◌, ◌-◌}
-use native.Mathlib.Omega.{arith}
 use lib.ListN.{length, take}
-use lib.Seq.{take_all}
-use borrow.Author.Rules.{rules}
 use Rattle.exact.specs.Numbers.{days_a_week}
 use Rattle.week.specs.Private.Walk.{no_ends, with_day}
-use Rattle.week.proofs.Folding.{fold_turn}
-use Rattle.week.proofs.Walking.{walk_is}
-use Rattle.week.proofs.Claiming.{claims}
 use Rattle.week.proofs.week_ends.Given as goal
 
 -- d days are gathered

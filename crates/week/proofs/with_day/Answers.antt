@@ -1,17 +1,10 @@
-use mathlib.Core.Path.{◌≡◌, refl, ap, ◌∙◌}
+use mathlib.Core.Path.{ap, ◌∙◌}
 use mathlib.Core.List.{foldl}
-use Prim.Native.Nat.{◌≤◌, ◌-◌}
 use native.Mathlib.Omega.{arith}
-use lib.ListN.{length, take}
 use lib.Seq.{take_all}
-use borrow.Author.Rules.{rules}
-use Rattle.exact.specs.Numbers.{places_a_day}
 use Rattle.week.specs.Private.Walk.{with_place}
 use Rattle.week.proofs.Folding.{fold_turn}
 use Rattle.week.proofs.with_day.Goals as goal
-
-pub loop-p-init : goal.loop-p-init
-loop-p-init c = (omega arith, c.well-formed.1.0.1.0.1, refl)
 
 pub offset_bounds-day-p : goal.offset_bounds-day-p
 offset_bounds-day-p c = omega arith
@@ -28,9 +21,9 @@ loop-p-smaller c = omega arith
 pub loop-p-preserved : goal.loop-p-preserved
 loop-p-preserved c =
     let l = c.loop-p in
-    (omega arith, l.invariant.1, fold_turn with_place c.args.ends c.args.t2 l.p _ (omega arith) l.invariant.2 c.with_place-r.ensures)
+    (omega arith, l.invariant.1, fold_turn with_place c.args.ends c.args.day l.p _ (omega arith) l.invariant.2 c.with_place-r.ensures)
 
 pub returns : goal.returns
 returns c =
     let l = c.loop-p in
-    l.invariant.2 ∙ ap (foldl with_place c.args.ends) (take_all l.p c.args.t2 (omega arith))
+    l.invariant.2 ∙ ap (foldl with_place c.args.ends) (take_all l.p c.args.day (omega arith))

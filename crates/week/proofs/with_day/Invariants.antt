@@ -1,13 +1,9 @@
-use mathlib.Core.Path.{◌≡◌, refl, ap, ◌∙◌}
+use mathlib.Core.Path.{◌≡◌}
 use mathlib.Core.List.{foldl}
 use Prim.Native.Nat.{◌≤◌, ◌-◌}
-use native.Mathlib.Omega.{arith}
 use lib.ListN.{length, take}
-use lib.Seq.{take_all}
-use borrow.Author.Rules.{rules}
 use Rattle.exact.specs.Numbers.{places_a_day}
 use Rattle.week.specs.Private.Walk.{with_place}
-use Rattle.week.proofs.Folding.{fold_turn}
 use Rattle.week.proofs.with_day.Given as goal
 
 -- p places are gathered

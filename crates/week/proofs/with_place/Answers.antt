@@ -1,4 +1,3 @@
-use borrow.Author.Rules.{rules}
 use Rattle.week.proofs.Walking.{place_empty, place_held}
 use Rattle.week.proofs.with_place.Goals as goal
 

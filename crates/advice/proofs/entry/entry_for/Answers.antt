@@ -1,4 +1,3 @@
-use borrow.Author.Rules.{rules}
 use borrow.Author.Tests.{lt-ltb, le-ltb}
 use Rattle.advice.specs.Orders.{largest_M}
 use Rattle.advice.specs.Advice.{entry_for}

@@ -1,7 +1,6 @@
 use Prim.Native.Nat.{◌^◌, ◌<◌}
 use native.Mathlib.Omega.{arith}
 use lib.Pow.{pow_pos, pow-lt}
-use borrow.Author.Rules.{rules}
 use mir.Facts.{to_z-of_z}
 use Rattle.advice.proofs.TakenUp.{bits, turned, depth_fits, below_one, formed}
 use Rattle.advice.proofs.entry.taken_up.Goals as goal

@@ -1,4 +1,3 @@
-use borrow.Author.Rules.{rules}
 use Rattle.advice.proofs.Test.{computed}
 use Rattle.advice.proofs.table.order_for.Goals as goal
 

@@ -1,5 +1,4 @@
 use native.Mathlib.Omega.{arith}
-use borrow.Author.Rules.{rules}
 use Rattle.exact.proofs.Operations.{none}
 use Rattle.host.proofs.Exactly.{zero_assembled, field_small, is_double, is_number}
 use Rattle.host.proofs.double.double_of.Goals as goal

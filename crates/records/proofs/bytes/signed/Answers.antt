@@ -1,7 +1,6 @@
 use mir.Syntax.{w32}
 use mir.ValLaws.{to_z_pos, to_z-of_z}
 use Rattle.records.proofs.Requests.{below, below_fits, signed_low, signed_high}
-use borrow.Author.Rules.{rules}
 use Rattle.records.proofs.bytes.signed.Goals as goal
 
 pub overflow_sub-result-else-x-lt2147483648 : goal.overflow_sub-result-else-x-lt2147483648

@@ -1,5 +1,4 @@
 use Rattle.exact.proofs.Signed.{back}
-use borrow.Author.Rules.{rules}
 use Rattle.records.proofs.bytes.signed_at.Goals as goal
 
 pub returns : goal.returns
