@@ -4,7 +4,7 @@ use mathlib.Core.Bool.{Bool, true, false, ◌||◌}
 use mathlib.Core.List.{List}
 use Prim.Native.Nat.{ℕ, ◌+◌, ◌≤◌, ◌<◌}
 use native.Mathlib.Omega.{arith}
-use borrow.Author.Tests.{ne_eqb, lt-ltb, le-ltb, le-leb, lt-leb}
+use borrow.Author.Tests.{lt-ltb, le-ltb, le-leb, lt-leb}
 use lib.Dec.{leb}
 use lib.ListN.{length, get_or}
 use Rattle.exact.specs.Records.{is_kind, body_length}
@@ -13,17 +13,6 @@ use Rattle.drop_empty_adds.specs.Dropping.{first_length}
 use Rattle.drop_empty_adds.specs.Private.OneRecord.{whole_length}
 use Rattle.drop_empty_adds.proofs.Tests.{or_true}
 use Rattle.drop_empty_adds.proofs.FirstRecords.{stops_length}
-
-pub lengths : (whole_length 1 ≡ 21) × (whole_length 2 ≡ 3) × (whole_length 3 ≡ 1) × (whole_length 4 ≡ 29)
-unfolding whole_length is_kind body_length
-lengths = (refl, refl, refl, refl)
-
-pub of_kind : {k n : ℕ} → whole_length k ≡ n → (kind : ℕ) → kind ≡ k → n ≡ whole_length kind
-of_kind f kind e = rw e (sym f)
-
-pub no_length : (kind : ℕ) → (kind ≡ 1 → ⊥) → (kind ≡ 2 → ⊥) → (kind ≡ 3 → ⊥) → (kind ≡ 4 → ⊥) → 0 ≡ whole_length kind
-unfolding whole_length is_kind
-no_length kind a b c d = rw (ne_eqb kind 1 a, ne_eqb kind 2 b, ne_eqb kind 3 c, ne_eqb kind 4 d)
 
 module _ (l : List ℕ) where
   pub of_none : length l ≡ 0 → 0 ≡ first_length l

@@ -8,6 +8,7 @@ ghost use Rattle.drop_empty_adds.specs.Private.OneRecord.{whole_length, KeptOrDr
 use exact::LARGEST_SCRIPT;
 
 // The bytes of a whole record of this kind, or 0 where there is no such kind.
+#[tactic(auto, unfolding(crate::specs::Private::OneRecord::whole_length, exact::specs::Records::is_kind, exact::specs::Records::body_length))]
 fn whole_length(kind: u8) -> usize
     ensures { result ≡ whole_length kind }
 {
@@ -27,6 +28,7 @@ fn whole_length(kind: u8) -> usize
 }
 
 // The bytes of the first record. Where it is refused as 1 or 2, they are all that there are.
+#[tactic(auto, using(crate::proofs::Lengths::of_none, crate::proofs::Lengths::of_no_kind, crate::proofs::Lengths::of_short, crate::proofs::Lengths::of_whole))]
 fn first_length(bytes: &[u8]) -> usize
     ensures { result ≡ first_length bytes.now }
 {
@@ -44,6 +46,7 @@ fn first_length(bytes: &[u8]) -> usize
 }
 
 // Whether the first record is an add of count 0.
+#[tactic(auto, using(crate::proofs::EmptyAdds::of_few, crate::proofs::EmptyAdds::of_other_kind, crate::proofs::EmptyAdds::of_low_byte, crate::proofs::EmptyAdds::of_high_byte))]
 fn is_empty_add(bytes: &[u8]) -> bool
     ensures { result ≡ is_empty_add bytes.now }
 {
@@ -84,6 +87,7 @@ fn keep(script: &mut [u8], from: usize, to: usize, n: usize) -> usize
 }
 
 // Drops the adds of count 0 and moves the other records together. Answers how many bytes the new script has; one that is too long has none, and stays as it is.
+#[tactic(auto, using(crate::proofs::Moving::finished, crate::proofs::Claiming::claims))]
 pub fn drop_empty_adds(script: &mut [u8]) -> usize
     ensures in_place { InPlace script.old script.new result }
     ensures claims { Claims }

@@ -17,6 +17,7 @@ use streams::{Input, KEPT, Output, read_script};
 const PIECE: usize = 65536;
 
 // A piece of what is left to print from a position on: the line of refusal 8 where the script is too long, and otherwise lines of its listing.
+#[tactic(auto, using(crate::proofs::Pieces::next_long, crate::proofs::Pieces::next_short))]
 fn put_piece(script: &[u8], at: usize, s: Session, out: &mut [u8; PIECE]) -> Piece
     requires { Reached s }
     ensures { NextOf script.now at s out.new result }

@@ -1,14 +1,10 @@
 use Rattle.std.proofs.Common.{rules, arith, ap, ◌∙◌}
 use Rattle.drop_empty_adds.specs.Dropping.{first_length}
-use Rattle.drop_empty_adds.proofs.Moving.{too_long, part_is, some, fits, next, finished}
-use Rattle.drop_empty_adds.proofs.Claiming.{claims}
+use Rattle.drop_empty_adds.proofs.Moving.{too_long, part_is, some, fits, next}
 use Rattle.drop_empty_adds.proofs.dropping.drop_empty_adds.Goals as goal
 
 pub returns-then-script-gt-LARGEST_SCRIPT-clause-in_place : goal.returns-then-script-gt-LARGEST_SCRIPT-clause-in_place
 returns-then-script-gt-LARGEST_SCRIPT-clause-in_place c = search (too_long, rules)
-
-pub returns-then-script-gt-LARGEST_SCRIPT-clause-claims : goal.returns-then-script-gt-LARGEST_SCRIPT-clause-claims
-returns-then-script-gt-LARGEST_SCRIPT-clause-claims c = claims
 
 pub keep-to-requires : goal.keep-to-requires
 keep-to-requires c =
@@ -34,9 +30,3 @@ loop-from-preserved c =
     let z = c.loop-from.invariant in
     let f = c.first_length-n.ensures ∙ ap first_length (part_is _ _ _ _ z.0) in
     (next _ _ _ _ z.0 (omega arith) _ f _ _ c.keep-to.ensures, z.1)
-
-pub returns-clause-in_place : goal.returns-clause-in_place
-returns-clause-in_place c = search (finished, rules)
-
-pub returns-clause-claims : goal.returns-clause-claims
-returns-clause-claims c = claims
