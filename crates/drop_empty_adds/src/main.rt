@@ -1,7 +1,7 @@
 // drop_empty_adds: copies a script from standard input to standard output without its adds of count 0.
 #![tactic(auto)]
 
-ghost use Rattle.streams.specs.Writing.{Handed};
+ghost use Rattle.streams.specs.Writing.{Appended, Handed};
 ghost use Rattle.drop_empty_adds.specs.Dropping.{dropped};
 
 mod dropping;
@@ -13,7 +13,8 @@ use streams::{Input, KEPT, Output, read_script};
 
 // Writes the new script; of one that is too long, nothing.
 fn run<W: Write>(output: &mut W, script: &mut [u8]) -> Output
-    ensures { Handed (dropped script.old) result }
+    ensures handed { Handed (dropped script.old) result }
+    ensures bytes { Appended (W.contents output.old) (W.contents output.new) (dropped script.old) result }
 {
     let n = drop_empty_adds(script);
     if output.write_all(&script[..n]).is_ok() {

@@ -1,7 +1,7 @@
 -- A piece of what is printed, by the two cases of the script's length, and a run of pieces.
 use mathlib.Core.Path.{◌≡◌, refl, sym, ap, subst, ◌∙◌}
 use mathlib.Core.Bool.{true, false, cond}
-use mathlib.Core.List.{List, [], ◌++◌, append-nil}
+use mathlib.Core.List.{List, [], ◌++◌, append-nil, append_assoc}
 use Prim.Native.Nat.{ℕ, ◌+◌, ◌*◌, ◌≤◌, ◌<◌}
 use native.Mathlib.Omega.{arith}
 use borrow.Author.Tests.{lt-ltb, le-ltb}
@@ -27,7 +27,7 @@ unfolding printed_from refuses_8
 short_is l i s h = rw (le-ltb largest_script (length l) h)
 
 -- what is left at the start is what is printed
-start_is : (l : List ℕ) → printed_from l 0 empty ≡ printed l
+pub start_is : (l : List ℕ) → printed_from l 0 empty ≡ printed l
 unfolding printed_from printed
 start_is l = refl
 
@@ -99,3 +99,7 @@ module _ (l : List ℕ) (i : ℕ) (s : Session) (done : ℕ) (after : List ℕ) 
 
   pub going_fits : done + p.used ≤ room * largest_script + piece_size
   going_fits = omega (arith, g.most, g.near, n.within, n.size)
+
+  -- the bytes handed over, and then those that were left, are what is printed; so they are with the piece
+  pub bytes_on : (bs : List ℕ) → bs ++ printed_from l i s ≡ printed l → p.ended ≡ false → (bs ++ take p.used after) ++ printed_from l p.next p.session ≡ printed l
+  bytes_on bs h e = append_assoc bs (take p.used after) _ ∙ ap (λ (t : List ℕ). bs ++ t) (rw e at n.is) ∙ h

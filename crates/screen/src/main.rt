@@ -1,10 +1,11 @@
 // screen: runs a script from standard input and writes what document 01 says of it.
 #![tactic(auto)]
 
-ghost use Rattle.std.specs.Prelude.{◌≤◌, length};
+ghost use Rattle.std.specs.Prelude.{◌≡◌, true, ◌≤◌, length, take};
+ghost use Rattle.std.specs.Io.KnownBytes.{Appends};
 ghost use Rattle.encounter.specs.Calls.{Reached};
 ghost use Rattle.listing.specs.Listing.{printed};
-ghost use Rattle.streams.specs.Writing.{Handed};
+ghost use Rattle.streams.specs.Writing.{Appended, Handed};
 ghost use Rattle.screen.specs.Printing.{NextOf};
 
 use encounter::state::Session;
@@ -37,6 +38,7 @@ fn put_piece(script: &[u8], at: usize, s: Session, out: &mut [u8; PIECE]) -> Pie
 // Writes the first bytes of the buffer, and answers whether all of them were written.
 fn write_out<W: Write>(output: &mut W, out: &[u8; PIECE], used: usize) -> bool
     requires { used ≤ length out.now }
+    ensures { result ≡ true → Appends (W.contents output.old) (W.contents output.new) (take used out.now) }
 {
     let all: &[u8] = out;
     output.write_all(&all[..used]).is_ok()
@@ -44,7 +46,8 @@ fn write_out<W: Write>(output: &mut W, out: &[u8; PIECE], used: usize) -> bool
 
 // Writes what is printed for the script, piece by piece, up to a piece that could not be written.
 fn run<W: Write>(output: &mut W, script: &[u8]) -> Output
-    ensures { Handed (printed script.now) result }
+    ensures handed { Handed (printed script.now) result }
+    ensures bytes { Appended (W.contents output.old) (W.contents output.new) (printed script.now) result }
 {
     let mut out = [0u8; PIECE];
     let mut session = Session::empty();
