@@ -91,15 +91,6 @@ module _ (l : List ℕ) (i : ℕ) (s : Session) (done : ℕ) (after : List ℕ) 
     reached = n.reached;
   }
 
-  pub going_less : p.ended ≡ false → length (printed_from l p.next p.session) < length (printed_from l i s)
-  going_less e = omega (arith, n.more e, rw e at sizes)
-
-  pub going_end : p.ended ≡ true → done + p.used ≡ length (printed l)
-  going_end e = omega (arith, g.total, rw e at sizes)
-
-  pub going_fits : done + p.used ≤ room * largest_script + piece_size
-  going_fits = omega (arith, g.most, g.near, n.within, n.size)
-
   -- the bytes handed over, and then those that were left, are what is printed; so they are with the piece
   pub bytes_on : (bs : List ℕ) → bs ++ printed_from l i s ≡ printed l → p.ended ≡ false → (bs ++ take p.used after) ++ printed_from l p.next p.session ≡ printed l
   bytes_on bs h e = append_assoc bs (take p.used after) _ ∙ ap (λ (t : List ℕ). bs ++ t) (rw e at n.is) ∙ h
