@@ -1,6 +1,8 @@
 // A customer: it calls every public function of the library as a caller would, with any numbers and bytes, and meets each premise by the promise of the call
 // before. Only a function that takes or lends a session has a premise here, `Reached`, and one that takes a week, `FromCalls`; their callers start from the empty session
 // and the empty week.
+#![tactic(auto)]
+
 ghost use Rattle.std.specs.Prelude.{◌≡◌};
 ghost use Rattle.encounter.specs.Session.{empty as empty_session};
 ghost use Rattle.encounter.specs.Calls.{begins, begins_conjunction, adds, reads, call, Reached};

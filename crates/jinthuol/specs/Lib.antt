@@ -1,6 +1,5 @@
 pub mod Answer
 pub mod Advice
-pub mod Burn
 pub mod Doubles
 pub mod Run
 pub mod Version

@@ -3,4 +3,4 @@ use Rattle.std.specs.Prelude.{ℕ}
 
 -- one more with each landing that changes a struct or a function of bindings/c/jinthuol.h, or what a function answers
 abbrev pub version : ℕ
-version = 12
+version = 11

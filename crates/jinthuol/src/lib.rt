@@ -1,5 +1,7 @@
-// The library for programs in other languages: the calls of crate encounter, the advised order, ends as doubles, the week, the latest burn, numbers in decimal, the division
-// by a whole number and the listing of a script, under names of C.
+// The library for programs in other languages: the calls of crate encounter, the advised order, ends as doubles, the week, numbers in decimal, the division by a whole
+// number and the listing of a script, under names of C.
+#![tactic(auto)]
+
 ghost use Rattle.std.specs.Prelude.{◌≡◌};
 ghost use Rattle.exact.specs.Decimals.{decimal_of, Printed, Found, Near};
 ghost use Rattle.encounter.specs.Session.{empty as empty_session};
@@ -10,14 +12,12 @@ ghost use Rattle.host.specs.Doubles.{doubles as host_doubles, Says as DoublesSay
 ghost use Rattle.host.specs.Plot.{plotted as host_plotted, Stores};
 ghost use Rattle.jinthuol.specs.Advice.{advice_numbers, told};
 ghost use Rattle.jinthuol.specs.Answer.{class_number, numbered, called};
-ghost use Rattle.jinthuol.specs.Burn.{burn_numbers, burn_told};
 ghost use Rattle.jinthuol.specs.Doubles.{doubles_numbers, doubles_told, plotted_numbers, plotted_told};
 ghost use Rattle.jinthuol.specs.Run.{RunOf};
 ghost use Rattle.jinthuol.specs.Version.{version};
 ghost use Rattle.jinthuol.specs.Week.{days_of, in_days, entered_as};
 ghost use Rattle.week.specs.Week.{empty_week, enter as week_entry, week_ends as ends_of_week};
 ghost use Rattle.week.specs.Told.{FromCalls};
-ghost use Rattle.windows.specs.Windows.{windows_of, latest_burn as burn_of_windows, Says as BurnSays};
 
 mod ends;
 mod weeks;
@@ -33,11 +33,9 @@ use exact::{Conjunction, DAYS_A_WEEK, Decimal, Encounter, LARGEST_SCRIPT, PLACES
 use host::{PlotRecord, read_doubles, read_plot_record};
 use listing::script::{put_lines, put_too_long};
 use week::{Bracket, Ends, empty_week, enter, week_ends};
-use windows;
-use windows::latest_burn;
 
 // The version of the functions below and their structs; bindings/c/jinthuol.h has the same number.
-pub const VERSION: u32 = 12;
+pub const VERSION: u32 = 11;
 
 // An answer, with its class as a number.
 #[repr(C)]
@@ -102,15 +100,6 @@ pub struct Entered {
     pub week: Week,
 }
 
-// The refusal's number, or 0; found is 1 where there is a minute, and 0 where there is none; then the minute, or 0.
-#[repr(C)]
-#[derive(Clone, Copy)]
-pub struct Burn {
-    pub refusal: u32,
-    pub found: u32,
-    pub minute: u32,
-}
-
 // The answer of a call, and the session after it.
 #[derive(Clone, Copy)]
 pub struct Called {
@@ -173,28 +162,6 @@ fn advice_of(a: advice::Advice) -> Advice
     }
 }
 
-fn burn_of(b: windows::Burn) -> Burn
-    ensures { result ≡ burn_numbers b }
-{
-    match b {
-        windows::Burn::Minute(m) => Burn {
-            refusal: 0,
-            found: 1,
-            minute: m,
-        },
-        windows::Burn::None => Burn {
-            refusal: 0,
-            found: 0,
-            minute: 0,
-        },
-        windows::Burn::Refused(r) => Burn {
-            refusal: r,
-            found: 0,
-            minute: 0,
-        },
-    }
-}
-
 fn called_of(c: state::Called) -> Called
     ensures { result ≡ called c }
 {
@@ -225,23 +192,20 @@ fn added(s: Session, count: u16) -> Called
     called_of(calls::add(s, count))
 }
 
-#[unsafe(no_mangle)]
-pub extern "C" fn jinthuol_version() -> u32
+pub fn jinthuol_version() -> u32
     ensures { result ≡ version }
 {
     VERSION
 }
 
 // No encounter begun.
-#[unsafe(no_mangle)]
-pub extern "C" fn jinthuol_empty() -> Session
+pub fn jinthuol_empty() -> Session
     ensures { (result ≡ empty_session) × Reached result }
 {
     Session::empty()
 }
 
-#[unsafe(no_mangle)]
-pub extern "C" fn jinthuol_begin(session: &mut Session, encounter: Encounter) -> Answer
+pub fn jinthuol_begin(session: &mut Session, encounter: Encounter) -> Answer
     requires { Reached session.old }
     ensures { (result ≡ numbered (call (begins encounter) session.old).answer) × (session.new ≡ (call (begins encounter) session.old).session) × Reached session.new }
 {
@@ -251,11 +215,7 @@ pub extern "C" fn jinthuol_begin(session: &mut Session, encounter: Encounter) ->
     r.answer
 }
 
-#[unsafe(no_mangle)]
-pub extern "C" fn jinthuol_begin_conjunction(
-    session: &mut Session,
-    conjunction: Conjunction,
-) -> Answer
+pub fn jinthuol_begin_conjunction(session: &mut Session, conjunction: Conjunction) -> Answer
     requires { Reached session.old }
     ensures { (result ≡ numbered (call (begins_conjunction conjunction) session.old).answer) × (session.new ≡ (call (begins_conjunction conjunction) session.old).session) × Reached session.new }
 {
@@ -265,8 +225,7 @@ pub extern "C" fn jinthuol_begin_conjunction(
     r.answer
 }
 
-#[unsafe(no_mangle)]
-pub extern "C" fn jinthuol_add(session: &mut Session, count: u16) -> Answer
+pub fn jinthuol_add(session: &mut Session, count: u16) -> Answer
     requires { Reached session.old }
     ensures { (result ≡ numbered (call (adds count) session.old).answer) × (session.new ≡ (call (adds count) session.old).session) × Reached session.new }
 {
@@ -276,8 +235,7 @@ pub extern "C" fn jinthuol_add(session: &mut Session, count: u16) -> Answer
     r.answer
 }
 
-#[unsafe(no_mangle)]
-pub extern "C" fn jinthuol_read(session: Session) -> Answer
+pub fn jinthuol_read(session: Session) -> Answer
     requires { Reached session }
     ensures { result ≡ numbered (call reads session).answer }
 {
@@ -285,8 +243,7 @@ pub extern "C" fn jinthuol_read(session: Session) -> Answer
 }
 
 // The advised order of the session's encounter.
-#[unsafe(no_mangle)]
-pub extern "C" fn jinthuol_advise(session: Session) -> Advice
+pub fn jinthuol_advise(session: Session) -> Advice
     requires { Reached session }
     ensures { (result ≡ advice_numbers (advised session)) × (told result ≡ advised session) }
 {
@@ -294,8 +251,7 @@ pub extern "C" fn jinthuol_advise(session: Session) -> Advice
 }
 
 // Both ends as doubles, or the lower end alone where the upper end is 1 or more.
-#[unsafe(no_mangle)]
-pub extern "C" fn jinthuol_read_doubles(session: Session) -> Doubles
+pub fn jinthuol_read_doubles(session: Session) -> Doubles
     requires { Reached session }
     ensures { (result ≡ doubles_numbers (host_doubles session)) × (doubles_told result ≡ host_doubles session) × DoublesSay (call reads session).answer (doubles_told result) }
 {
@@ -303,8 +259,7 @@ pub extern "C" fn jinthuol_read_doubles(session: Session) -> Doubles
 }
 
 // The record that the plotting tool stores, where both ends are there.
-#[unsafe(no_mangle)]
-pub extern "C" fn jinthuol_read_plot_record(session: Session) -> Plotted
+pub fn jinthuol_read_plot_record(session: Session) -> Plotted
     requires { Reached session }
     ensures { (result ≡ plotted_numbers (host_plotted session)) × (plotted_told result ≡ host_plotted session) × Stores (call reads session).answer (plotted_told result) }
 {
@@ -312,16 +267,14 @@ pub extern "C" fn jinthuol_read_plot_record(session: Session) -> Plotted
 }
 
 // A week with nothing in it.
-#[unsafe(no_mangle)]
-pub extern "C" fn jinthuol_empty_week() -> Week
+pub fn jinthuol_empty_week() -> Week
     ensures { (result ≡ in_days empty_week) × (days_of result ≡ empty_week) × FromCalls (days_of result) }
 {
     days_in(empty_week())
 }
 
 // The week with the two ends of a read of the session in the next empty place of the day.
-#[unsafe(no_mangle)]
-pub extern "C" fn jinthuol_enter(week: Week, day: u32, session: Session) -> Entered
+pub fn jinthuol_enter(week: Week, day: u32, session: Session) -> Entered
     requires { (FromCalls (days_of week)) × Reached session }
     ensures { (result ≡ entered_as (week_entry (days_of week) day session)) × (days_of result.week ≡ (week_entry (days_of week) day session).week) × FromCalls (days_of result.week) }
 {
@@ -332,41 +285,29 @@ pub extern "C" fn jinthuol_enter(week: Week, day: u32, session: Session) -> Ente
 }
 
 // The week's two ends.
-#[unsafe(no_mangle)]
-pub extern "C" fn jinthuol_week_ends(week: Week) -> Ends
+pub fn jinthuol_week_ends(week: Week) -> Ends
     requires { FromCalls (days_of week) }
     ensures { result ≡ ends_of_week (days_of week) }
 {
     week_ends(arrays_of(week))
 }
 
-// The latest minute that lies in a window and is at or before the time less the lead. The slice has an opening and a closing minute for each window, in turn.
-#[unsafe(no_mangle)]
-pub extern "C" fn jinthuol_latest_burn_of_pairs(minutes: &[u32], time: u32, lead: u32) -> Burn
-    ensures { (result ≡ burn_numbers (burn_of_windows (windows_of minutes.now) time lead)) × (burn_told result ≡ burn_of_windows (windows_of minutes.now) time lead) × BurnSays (windows_of minutes.now) time lead (burn_told result) }
-{
-    burn_of(latest_burn(minutes, time, lead))
-}
-
 // A number in decimal, as a lower end or, where up is true, as an upper one.
-#[unsafe(no_mangle)]
-pub extern "C" fn jinthuol_to_decimal(up: bool, number: Scaled) -> Decimal
+pub fn jinthuol_to_decimal(up: bool, number: Scaled) -> Decimal
     ensures { (result ≡ decimal_of up number) × Printed up number result × (Found up number → Near number result) }
 {
     to_decimal(up, number)
 }
 
 // A number divided by a whole number: rounded down or, where up is true, up.
-#[unsafe(no_mangle)]
-pub extern "C" fn jinthuol_divide(up: bool, number: Scaled, divisor: u32) -> Divided
+pub fn jinthuol_divide(up: bool, number: Scaled, divisor: u32) -> Divided
     ensures { (result ≡ divided up number divisor) × Says up number divisor result }
 {
     divide(up, number, divisor)
 }
 
 // The listing of a script, as far as the buffer has room for it.
-#[unsafe(no_mangle)]
-pub extern "C" fn jinthuol_run(script: &[u8], out: &mut [u8]) -> Listing
+pub fn jinthuol_run(script: &[u8], out: &mut [u8]) -> Listing
     ensures { RunOf script.now out.old out.new result }
 {
     if LARGEST_SCRIPT < script.len() {
