@@ -41,6 +41,7 @@ fn sum(e: i32, t: i32) -> i32
 }
 
 // Test 10.
+#[tactic(auto, using(crate::proofs::Refusing::of_small))]
 fn refused(number: Scaled, divisor: u32) -> bool
     ensures { result ≡ refuses_10 number divisor }
 {

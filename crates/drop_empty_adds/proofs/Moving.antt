@@ -151,6 +151,10 @@ too_long l h =
     let z : refuses_8 l ≡ true = unfold refuses_8 in lt-ltb largest_script (length l) h in
     record { is = rw (nothing_left l z); ends = rw (nothing_left l z) }
 
+-- and of such a one nothing is left
+pub too_long_left : (l : List ℕ) → largest_script < length l → dropped l ≡ []
+too_long_left l h = nothing_left l (unfold refuses_8 in lt-ltb largest_script (length l) h)
+
 -- the new script lies within what was lent
 pub new_within : (l buf : List ℕ) (r : ℕ) → InPlace l buf r → r ≤ length buf
 new_within l buf r p = omega (arith, p.ends, ap length p.is, length-append (dropped l) (drop (length (dropped l)) l))

@@ -87,7 +87,7 @@ fn keep(script: &mut [u8], from: usize, to: usize, n: usize) -> usize
 }
 
 // Drops the adds of count 0 and moves the other records together. Answers how many bytes the new script has; one that is too long has none, and stays as it is.
-#[tactic(auto, using(crate::proofs::Moving::finished, crate::proofs::Claiming::claims))]
+#[tactic(auto, using(crate::proofs::Moving::too_long_left, crate::proofs::Moving::finished, crate::proofs::Claiming::claims))]
 pub fn drop_empty_adds(script: &mut [u8]) -> usize
     ensures in_place { InPlace script.old script.new result }
     ensures claims { Claims }

@@ -6,6 +6,7 @@ pub mod Invariant
 pub mod Claiming
 pub mod AcceptedReads
 pub mod Classes
+pub mod Threshold
 pub mod PrintedEnds
 pub mod ExactCount
 pub mod LargestOrder

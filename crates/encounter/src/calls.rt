@@ -156,6 +156,7 @@ fn further(s: Session, count: u32) -> Session
 }
 
 // Adds terms: refused as 12, 21 or 22.
+#[tactic(auto, using(crate::proofs::calls::Answering::add_refused_12, crate::proofs::calls::Answering::add_refused_21, crate::proofs::calls::Answering::add_refused_22))]
 pub fn add(s: Session, count: u16) -> Called
     requires { Reached s }
     ensures { (result ≡ call (adds count) s) × Reached result.session }

@@ -31,6 +31,7 @@ pub fn double_of(x: Scaled) -> f64
 }
 
 // Whether x is 1 or more: m has 32 bits, so it is so where e is above -32.
+#[tactic(auto, using(crate::proofs::Cases::zero_below, crate::proofs::Cases::one_or_more))]
 pub fn one_or_more(x: Scaled) -> bool
     requires { IsScaled 32 x }
     ensures { result ≡ at_most (whole 1) (value x) }

@@ -307,6 +307,7 @@ pub fn jinthuol_divide(up: bool, number: Scaled, divisor: u32) -> Divided
 }
 
 // The listing of a script, as far as the buffer has room for it.
+#[tactic(auto, using(crate::proofs::Running::run_long))]
 pub fn jinthuol_run(script: &[u8], out: &mut [u8]) -> Listing
     ensures { RunOf script.now out.old out.new result }
 {

@@ -28,6 +28,7 @@ fn is_final(a: Answer) -> bool
 }
 
 // The lines of the records from a position on, while the buffer has ROOM bytes left.
+#[tactic(auto, using(crate::proofs::Lines::going_full))]
 pub fn put_lines(script: &[u8], at: usize, s: Session, out: &mut [u8]) -> Piece
     requires { Reached s }
     ensures { PieceOf script.now at s out.old out.new result }

@@ -124,6 +124,11 @@ module _ (l : List ℕ) (i : ℕ) (s : Session) (h : Reached s) where
       let g : record { answer = refused r; session = s } ≡ outcome (history_of s) (bad r) s = refused_is s (bad r) r (unfold refusal in refl) some refl in
       answered (bad r) i t e (f ∙ ap (λ (c : Called). record { answer = c.answer; next = i; session = c.session }) g)
 
+  -- a begin that is cut short
+  pub begin_stopped : {t : Taken} → i < length l → get_or l i 0 ≡ 1 → length l - i < 21 → t ≡ record { answer = refused 2; next = i; session = s }
+      → (t ≡ record_call l i s) × Reached t.session
+  begin_stopped {t} b k m e = stopped 2 t (λ z. omega arith) (begin_short l i b k m) e
+
   -- a read leaves the session
   read_keeps : (outcome (history_of s) read s).session ≡ s
   read_keeps = by_cases (history_of s) read s (λ r _. r.session ≡ s) (λ _. told h) (λ _. refl)

@@ -103,6 +103,7 @@ fn take_add(s: Session, script: &[u8], at: usize) -> Taken
 }
 
 // The call that the record at a position asks for. After refusal 1 or 2 `next` is that position itself: the script ends there. The script is lent for reading only.
+#[tactic(auto, using(crate::proofs::Requests::begin_stopped))]
 pub fn take_record(s: Session, script: &[u8], at: usize) -> Taken
     requires { Reached s }
     ensures { (result ≡ record_call script.now at s) × Reached result.session }

@@ -79,6 +79,7 @@ fn next_place(day: [Bracket; PLACES_A_DAY]) -> usize
 }
 
 // The read's refusal, then test 24: the number of the first that refuses, or 0.
+#[tactic(auto, using(crate::proofs::Tests::as_read, crate::proofs::Tests::a_ninth, crate::proofs::Tests::has_place))]
 fn test_entry(earlier: u32, place: usize) -> u32
     ensures { result ≡ test_24 earlier place }
 {

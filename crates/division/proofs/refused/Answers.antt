@@ -3,7 +3,7 @@ use mir.Facts.{to_z-of_z}
 use mir.Syntax.{w32}
 use mir.Val.{SFits}
 use Rattle.exact.specs.Scaled.{Normal}
-use Rattle.division.proofs.Refusing.{by_zero, of_zero, of_small, of_normal}
+use Rattle.division.proofs.Refusing.{by_zero, of_zero, of_normal}
 use Rattle.division.proofs.refused.Goals as goal
 
 pub returns-then-divisor-eq0 : goal.returns-then-divisor-eq0
@@ -14,11 +14,6 @@ returns-then-m-eq0 c =
     let a = c.args in
     let h : SFits w32 a.number.e = record { sfits = c.struct_told-1.given.1.0.1 } in
     rw (c.is_zero.ensures, to_z-of_z {w = w32} h) (of_zero a.number a.divisor (λ z. omega (arith, z, c.if-divisor-eq0.false)) c.if-m-eq0.true)
-
-pub returns-then-m-lt2147483648 : goal.returns-then-m-lt2147483648
-returns-then-m-lt2147483648 c =
-    let a = c.args in
-    of_small a.number a.divisor (λ z. omega (arith, z, c.if-divisor-eq0.false)) c.if-m-eq0.false (omega (arith, c.if-m-lt2147483648.true))
 
 pub returns : goal.returns
 returns c =

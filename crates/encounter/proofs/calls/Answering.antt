@@ -210,6 +210,25 @@ module _ (s : Session) (count : ℕ) where
       add_taken l f g =
           taken_is s (add count) (later (history_of s) 0 (unfold refuses_22 in rw (history_some s some, le-ltb largest_order (s.N + count) l))) (rw (history_some s some) f) (rw (history_some s some) g)
 
+-- refused, or accepted: what the call by value promises of its result r
+module _ (s : Session) (count : ℕ) (r : Called) (h : Reached s) where
+  promised : r ≡ call (adds count) s → (r ≡ call (adds count) s) × Reached r.session
+  promised e = (e, call_reached (adds count) h e)
+
+  pub add_refused_12 : r ≡ record { answer = refused 12; session = s } → count ≡ 0 → (r ≡ call (adds count) s) × Reached r.session
+  add_refused_12 e z = promised (e ∙ add_12 s count z refl)
+
+  pub add_refused_21 : r ≡ record { answer = refused 21; session = s } → (count ≡ 0 → ⊥) → s.N ≡ 0 → (r ≡ call (adds count) s) × Reached r.session
+  add_refused_21 e more z = promised (e ∙ add_21 s count more z refl)
+
+  pub add_refused_22 :
+      r ≡ record { answer = refused 22; session = s } →
+      (count ≡ 0 → ⊥) →
+      (s.N ≡ 0 → ⊥) →
+      largest_order < s.N + count →
+      (r ≡ call (adds count) s) × Reached r.session
+  add_refused_22 e more some l = promised (e ∙ add_22 s count more some l refl)
+
 -- ---- read
 
 module _ (s : Session) where

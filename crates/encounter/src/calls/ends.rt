@@ -44,6 +44,7 @@ const THRESHOLD: Scaled = Scaled {
 };
 
 // The class: alert by the lower end, clear by the upper, otherwise open.
+#[tactic(auto, using(crate::proofs::calls::Threshold::tells_alert, crate::proofs::calls::Threshold::tells_open, crate::proofs::calls::Threshold::tells_clear))]
 pub fn classify(lower: Scaled, upper: Scaled) -> Class
     requires { (InRange 32 (2 ^ 28) lower) × (InRange 32 (2 ^ 28) upper) }
     ensures { result ≡ class_of lower upper }

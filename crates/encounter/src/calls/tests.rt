@@ -85,6 +85,7 @@ pub fn passes_test_11(M: Scaled) -> bool
 }
 
 // Test 9, where `earlier` is the number that the tests before give: the number of the first that refuses, or 0.
+#[tactic(auto, using(crate::proofs::calls::Conjunctions::refused_earlier, crate::proofs::calls::Conjunctions::refused_9, crate::proofs::calls::Conjunctions::passed_9))]
 pub fn test_object(earlier: u32, object: u32) -> u32
     ensures { result ≡ test_9 earlier object }
 {

@@ -1,14 +1,11 @@
 use Prim.Native.Nat.{◌+◌}
 use native.Mathlib.Omega.{arith}
 use Rattle.exact.specs.Records.{begin, begin_conjunction, add}
-use Rattle.records.proofs.Requests.{no_byte, begin_short, begin_whole, add_short, add_whole, a_read, conjunction_short, conjunction_whole, no_kind, stopped, answered, read_at}
+use Rattle.records.proofs.Requests.{no_byte, begin_whole, add_short, add_whole, a_read, conjunction_short, conjunction_whole, no_kind, stopped, answered, read_at}
 use Rattle.records.proofs.take_record.Goals as goal
 
 pub returns-then-script-at : goal.returns-then-script-at
 returns-then-script-at c = stopped c.args.script.now c.args.at c.args.s c.requires 1 _ (λ e. omega arith) (no_byte _ _ c.if-script-at.true) c.stop.ensures
-
-pub returns-then-left-lt21 : goal.returns-then-left-lt21
-returns-then-left-lt21 c = stopped c.args.script.now c.args.at c.args.s c.requires 2 _ (λ e. omega arith) (begin_short _ _ c.if-script-at.false c.if-kind-eq1.true (omega (arith, c.if-left-lt21.true))) c.stop-then-left-lt21.ensures
 
 pub returns-then-kind-eq1 : goal.returns-then-kind-eq1
 returns-then-kind-eq1 c =

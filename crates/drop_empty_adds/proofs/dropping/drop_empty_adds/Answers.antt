@@ -1,10 +1,7 @@
-use Rattle.std.proofs.Common.{rules, arith, ap, ◌∙◌}
+use Rattle.std.proofs.Common.{arith, ap, ◌∙◌}
 use Rattle.drop_empty_adds.specs.Dropping.{first_length}
-use Rattle.drop_empty_adds.proofs.Moving.{too_long, part_is, some, fits, next}
+use Rattle.drop_empty_adds.proofs.Moving.{part_is, some, fits, next}
 use Rattle.drop_empty_adds.proofs.dropping.drop_empty_adds.Goals as goal
-
-pub returns-then-script-gt-LARGEST_SCRIPT-clause-in_place : goal.returns-then-script-gt-LARGEST_SCRIPT-clause-in_place
-returns-then-script-gt-LARGEST_SCRIPT-clause-in_place c = search (too_long, rules)
 
 pub keep-to-requires : goal.keep-to-requires
 keep-to-requires c =

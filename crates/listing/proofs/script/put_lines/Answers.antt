@@ -1,13 +1,10 @@
-use Rattle.listing.proofs.Lines.{going_start, going_on, going_stop, going_full, going_end, next_is}
+use Rattle.listing.proofs.Lines.{going_start, going_on, going_stop, going_end, next_is}
 use native.Mathlib.Omega.{arith}
 use mathlib.Core.Path.{sym, ◌∙◌}
 use Rattle.listing.proofs.script.put_lines.Goals as goal
 
 pub loop-i-init : goal.loop-i-init
 loop-i-init c = going_start _ c.args.at c.args.s _ c.requires
-
-pub returns-then-out-used-lt-ROOM : goal.returns-then-out-used-lt-ROOM
-returns-then-out-used-lt-ROOM c = going_full _ _ _ _ _ _ _ _ c.loop-i.invariant c.loop-i-test.true (omega (arith, c.loop-i.invariant.within, c.if-out-used-lt-ROOM.true))
 
 pub returns-then-is_final : goal.returns-then-is_final
 returns-then-is_final c =
