@@ -4,7 +4,9 @@ The code is copied to a temporary repository, a program of drivers.py that calls
 that on the interpreter and compiled with checks. It compares the program's lines with those that are expected.
 """
 
+import concurrent.futures
 import itertools
+import os
 import pathlib
 import re
 import shutil
@@ -60,11 +62,23 @@ MOST_STEPS = 4_000_000_000
 MOST_WRITTEN = 1 << 20
 
 
+# How many run at once.
+PROCESSES = os.cpu_count()
+
+
 def run(folder, runs):
     """Runs the driver on the records of each run, which come with the lines that are due.
 
     Gives of each run the Difference, or None. Exits where one of the two ways of running gives no answer.
     """
+    shares = [runs[n::PROCESSES] for n in range(min(PROCESSES, len(runs)))]
+    with concurrent.futures.ThreadPoolExecutor() as pool:
+        found = list(pool.map(lambda share: tried(folder, share), shares))
+    return [found[n % PROCESSES][n // PROCESSES] for n in range(len(runs))]
+
+
+def tried(folder, runs):
+    """The same, one run after another."""
     with tempfile.TemporaryDirectory() as name:
         cases = pathlib.Path(name)
         for n, (records, lines) in enumerate(runs):

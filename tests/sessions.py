@@ -389,8 +389,8 @@ LONG = [to_largest, at_far_test_23, beside_whole_M, at_advice, as_later_doubles,
 
 # The run.
 
-# The calls of one run.
-BATCH = scratch.MOST_WRITTEN // drivers.line_length(fields.FIELDS)
+# The calls of one run: few, so that those which run at once take about as long. A sequence may have twice as many.
+BATCH = scratch.MOST_WRITTEN // drivers.line_length(fields.FIELDS) // 4
 
 
 def runs(sequences):
