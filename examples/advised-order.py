@@ -5,7 +5,7 @@
 
 Lengths are whole centimetres. With --script it also writes a script of the same begin, add and read, for ./screen.
 examples/advised-order.md is the text on it. It calls the library by bindings/python/jinthuol.py, after
-`rt staticlib jinthuol`.
+`tools/build jinthuol`.
 
 Exit status: 0 the encounter was read; 1 it was not, and what is printed says why; 2 wrong use, or a file that cannot
 be written.

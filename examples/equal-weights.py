@@ -6,7 +6,7 @@
 Five numbers for each solution, in whole centimetres. Each solution is read at its advised order, and its ends are
 divided by the number of solutions: the lower end rounded down, the upper end up. The sum of the quotients is exact.
 examples/equal-weights.md is the text on it. It calls the library by bindings/python/jinthuol.py, after
-`rt staticlib jinthuol`.
+`tools/build jinthuol`.
 
 Exit status: 0 every solution was read; 1 one was not, and what is printed says why; 2 wrong use.
 """

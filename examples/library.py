@@ -1,4 +1,4 @@
-"""The library, for the programs of this folder: bindings/python/jinthuol.py, after `rt staticlib jinthuol`."""
+"""The library, for the programs of this folder: bindings/python/jinthuol.py, after `tools/build jinthuol`."""
 
 import pathlib
 import sys

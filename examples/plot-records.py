@@ -11,7 +11,7 @@ with its offset in the script, and a begin or an add has one where it is refused
     refused NUMBER: TEXT                     there is neither a record nor an end
 
 examples/plot-records.md is the text on it. It calls the library by bindings/python/jinthuol.py, after
-`rt staticlib jinthuol`.
+`tools/build jinthuol`.
 
 Exit status: 0 every line is a record; 1 one is not; 2 wrong use, or a file that cannot be read.
 """

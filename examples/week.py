@@ -12,7 +12,7 @@ day of its time of closest approach: minute 0 is 00:00 of day 0, and an encounte
     SCRIPT, byte OFFSET: refused NUMBER: TEXT.                             a begin, an add or a byte; the week is as it was
 
 Then come the number of brackets held and the two ends of the week, and what they say in decimal. examples/week.md is
-the text on it. It calls the library by bindings/python/jinthuol.py, after `rt staticlib jinthuol`.
+the text on it. It calls the library by bindings/python/jinthuol.py, after `tools/build jinthuol`.
 
 Exit status: 0 nothing was refused; 1 something was; 2 wrong use, or a file that cannot be read.
 """

@@ -3,7 +3,7 @@
 
     python3 tests/bindings.py [--library FOLDER] [--seed N]
 
-The folder holds the library; `rt staticlib jinthuol` writes it to target/staticlib. Encounters go through
+The folder holds the library; `tools/build jinthuol` writes it to target/staticlib. Encounters go through
 bindings/c/example.c, compiled as C and as C++, which enters each that is read into a week (week.py has more weeks);
 guard.c tries that no call writes past a session. The divisions of division.py go through quotients.c, compiled so too,
 and through bindings/python. The tests of bindings/rust are run. Scripts go through bindings/python and bindings/rust,

@@ -46,6 +46,6 @@ def library_of(arguments):
     """The folder that the option names, where it has a library. What is built goes to target/bindings."""
     library = arguments.library.resolve()
     if not (library / "libjinthuol.a").is_file():
-        sys.exit(f"{NAME}: no libjinthuol.a in {arguments.library}; `rt staticlib jinthuol` writes it")
+        sys.exit(f"{NAME}: no libjinthuol.a in {arguments.library}; `tools/build jinthuol` writes it")
     BUILT.mkdir(parents=True, exist_ok=True)
     return library

@@ -4,8 +4,7 @@
     python3 tests/digits.py [--root FOLDER] [--seed N]
 
 The numbers are those of ends.py, each as a lower and as an upper end; every power that is printed and every k that a
-number below 1 can have is among them. scratch.py runs a program that asks for each: compiled, and on the interpreter
-as far as it gets.
+number below 1 can have is among them. scratch.py runs a program that asks for each, interpreted and compiled.
 """
 
 import random
@@ -23,8 +22,6 @@ from scaled import Scaled
 
 # The numbers of a line.
 FIELDS = [("digits", False), ("power", False)]
-# The cases of one run.
-BATCH = scratch.MOST_WRITTEN // drivers.line_length(FIELDS)
 
 
 class Case(NamedTuple):
@@ -72,25 +69,22 @@ def record(case):
     return struct.pack("<BIi", case.up, *case.x)
 
 
-def run(folder, cases):
-    """Runs the cases. Gives the index of the first one that differs, with a text on it, or None."""
-    lines = [drivers.line(decimals.decimal(*case)) for case in cases]
-    ways = scratch.run(folder, b"".join(map(record, cases)), "".join(lines), long=True)
-    if not ways:
-        return None
-    first, text = scratch.report(ways, FIELDS, lines)
-    up, x = cases[first]
-    return first, "%d × 2^%d as %s end\n%s" % (*x, "an upper" if up else "a lower", text)
+def due(case):
+    return decimals.decimal(*case)
+
+
+def said(case):
+    return "%d × 2^%d as %s end" % (*case.x, "an upper" if case.up else "a lower")
 
 
 def main():
     options = scratch.arguments("Compares the decimals of crate encounter with decimals.py.")
     print("digits: seed %d" % options.seed)
     cases = all_cases(options.seed)
-    shown, due = {what for case in cases for what in shown_by(case)}, KS | POWERS | OTHERS
-    if shown != due:
-        sys.exit("digits: what no case has, or none may have: %s" % sorted(shown ^ due, key=str))
-    scratch.compare("digits", options.root, drivers.DECIMALS, cases, BATCH, run)
+    shown, wanted = {what for case in cases for what in shown_by(case)}, KS | POWERS | OTHERS
+    if shown != wanted:
+        sys.exit("digits: what no case has, or none may have: %s" % sorted(shown ^ wanted, key=str))
+    scratch.compare("digits", options.root, drivers.DECIMALS, FIELDS, cases, record, due, said)
     print("digits: %d decimals agree" % len(cases))
 
 

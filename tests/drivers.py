@@ -1,7 +1,7 @@
 """The programs in Rattle that scratch.py runs over the crates' code, and the lines that they write.
 
 A program reads a record of bytes for each case and writes a line, ROUNDS several lines: numbers of eight hexadecimal
-digits each, a negative one in two's complement.
+digits each, a negative one in two's complement. It ends where no whole record is left.
 """
 
 WIDTH = 8
@@ -96,6 +96,9 @@ use encounter::arithmetic::traced;
 use encounter::arithmetic::wide;
 use exact::Scaled;
 use exact::Traced;
+use std::io;
+use std::io::Read;
+use std::io::Write;
 
 fn long(b: &[u8; 18], at: usize) -> u64 {
     (word(b, at) as u64) + (word(b, at + 4) as u64) * 4294967296
@@ -154,15 +157,18 @@ fn put_lost(line: &mut [u8], at: usize, lost: bool) {
     }
 }
 
-fn main() {
+fn main(rt: HostRuntime) -> io::Result<()> {
+    let mut input = rt.stdin();
+    let mut output = rt.stdout();
     let mut record = [0u8; 18];
     let mut line = [10u8; 25];
-    while io::read_full(0, &mut record) == 18 {
+    while let Ok(()) = input.read_exact(&mut record) {
         let a = answer(&record);
         let next = put_scaled(&mut line, 0, a.number);
         put_lost(&mut line, next, a.lost);
-        io::write_all(1, &line);
+        output.write_all(&line)?;
     }
+    Ok(())
 }
 """
 
@@ -194,6 +200,9 @@ use host::PlotRecord;
 use host::Plotted;
 use host::read_doubles;
 use host::read_plot_record;
+use std::io;
+use std::io::Read;
+use std::io::Write;
 
 fn nothing() -> Answer {
     let zero = Scaled::ZERO;
@@ -340,19 +349,22 @@ fn put_plotted(line: &mut [u8], at: usize, p: Plotted) -> usize {
     }
 }
 
-fn main() {
+fn main(rt: HostRuntime) -> io::Result<()> {
+    let mut input = rt.stdin();
+    let mut output = rt.stdout();
     let mut record = [0u8; 29];
     let mut line = [10u8; 705];
     let mut s = Session::empty();
-    while io::read_full(0, &mut record) == 29 {
+    while let Ok(()) = input.read_exact(&mut record) {
         let answer = call(&mut s, &record);
         let mut next = put_answer(&mut line, 0, answer);
         next = put_session(&mut line, next, s);
         next = put_advice(&mut line, next, advise(s));
         next = put_doubles(&mut line, next, read_doubles(s));
         put_plotted(&mut line, next, read_plot_record(s));
-        io::write_all(1, &line);
+        output.write_all(&line)?;
     }
+    Ok(())
 }
 """
 
@@ -370,39 +382,51 @@ use encounter::steps::sides::PowerPairs;
 use encounter::steps::sides::pair_of;
 use encounter::steps::sides::side;
 use exact::Scaled;
+use std::io;
+use std::io::Read;
+use std::io::Write;
 
-fn show(lower_r: Scaled, lower_sum: Scaled, upper_r: Scaled, upper_sum: Scaled) {
+fn show<W: Write>(
+    output: &mut W,
+    lower_r: Scaled,
+    lower_sum: Scaled,
+    upper_r: Scaled,
+    upper_sum: Scaled,
+) -> io::Result<()> {
     let mut line = [10u8; 65];
     let mut next = put_scaled(&mut line, 0, lower_r);
     next = put_scaled(&mut line, next, lower_sum);
     next = put_scaled(&mut line, next, upper_r);
     put_scaled(&mut line, next, upper_sum);
-    io::write_all(1, &line);
+    output.write_all(&line)
 }
 
-fn show_round(w: PowerPairs) {
-    show(side(false, w.r), side(false, w.sum), side(true, w.r), side(true, w.sum));
+fn show_round<W: Write>(output: &mut W, w: PowerPairs) -> io::Result<()> {
+    show(output, side(false, w.r), side(false, w.sum), side(true, w.r), side(true, w.sum))
 }
 
-fn main() {
+fn main(rt: HostRuntime) -> io::Result<()> {
+    let mut input = rt.stdin();
+    let mut output = rt.stdout();
     let mut b = [0u8; 20];
-    while io::read_full(0, &mut b) == 20 {
+    while let Ok(()) = input.read_exact(&mut b) {
         let E = encounter_at(&b, 0);
         let below = letters(false, E);
         let above = letters(true, E);
         let t = pair_of(below.t.number, above.t.number);
         let one = pair_of(Scaled::ONE, Scaled::ONE);
         let mut w = PowerPairs { r: one, sum: one };
-        show_round(w);
+        show_round(&mut output, w)?;
         let mut k: u64 = 0;
         while k < 256 {
             w = one_round(t, w, k);
-            show_round(w);
+            show_round(&mut output, w)?;
             k += 1;
         }
         let taken = exponential_sums(below.t.number, above.t.number);
-        show(Scaled::ZERO, taken.lower, taken.r256, taken.upper);
+        show(&mut output, Scaled::ZERO, taken.lower, taken.r256, taken.upper)?;
     }
+    Ok(())
 }
 """
 
@@ -415,17 +439,23 @@ use crate::words::signed;
 use crate::words::word;
 use encounter::decimals::to_decimal;
 use exact::Scaled;
+use std::io;
+use std::io::Read;
+use std::io::Write;
 
-fn main() {
+fn main(rt: HostRuntime) -> io::Result<()> {
+    let mut input = rt.stdin();
+    let mut output = rt.stdout();
     let mut b = [0u8; 9];
     let mut line = [10u8; 17];
-    while io::read_full(0, &mut b) == 9 {
+    while let Ok(()) = input.read_exact(&mut b) {
         let x = Scaled { m: word(&b, 1), e: signed(word(&b, 5)) };
         let a = to_decimal(b[0] == 1, x);
         let next = put(&mut line, 0, a.digits);
         put(&mut line, next, a.power);
-        io::write_all(1, &line);
+        output.write_all(&line)?;
     }
+    Ok(())
 }
 """
 
@@ -434,15 +464,21 @@ ORDERS = """\
 mod words;
 use crate::words::put;
 use advice::orders;
+use std::io;
+use std::io::Read;
+use std::io::Write;
 
-fn main() {
+fn main(rt: HostRuntime) -> io::Result<()> {
+    let mut input = rt.stdin();
+    let mut output = rt.stdout();
     let mut index = [0u8; 1];
     let mut line = [10u8; 9];
     let table = orders();
-    while io::read_full(0, &mut index) == 1 {
+    while let Ok(()) = input.read_exact(&mut index) {
         put(&mut line, 0, table[index[0] as usize] as u32);
-        io::write_all(1, &line);
+        output.write_all(&line)?;
     }
+    Ok(())
 }
 """
 
@@ -456,17 +492,23 @@ use crate::words::signed;
 use crate::words::word;
 use division::divide;
 use exact::Scaled;
+use std::io;
+use std::io::Read;
+use std::io::Write;
 
-fn main() {
+fn main(rt: HostRuntime) -> io::Result<()> {
+    let mut input = rt.stdin();
+    let mut output = rt.stdout();
     let mut b = [0u8; 13];
     let mut line = [10u8; 25];
-    while io::read_full(0, &mut b) == 13 {
+    while let Ok(()) = input.read_exact(&mut b) {
         let x = Scaled { m: word(&b, 1), e: signed(word(&b, 5)) };
         let a = divide(b[0] == 1, x, word(&b, 9));
         let next = put(&mut line, 0, a.refusal);
         put_scaled(&mut line, next, a.quotient);
-        io::write_all(1, &line);
+        output.write_all(&line)?;
     }
+    Ok(())
 }
 """
 
@@ -489,6 +531,9 @@ use week::Ends;
 use week::empty_week;
 use week::enter;
 use week::week_ends;
+use std::io;
+use std::io::Read;
+use std::io::Write;
 
 fn conjunction_at(b: &[u8; 30]) -> Conjunction {
     Conjunction { encounter: encounter_at(b, 2), object: word(b, 22), time: word(b, 26) }
@@ -543,13 +588,15 @@ fn put_ends(line: &mut [u8], at: usize, ends: Ends) -> usize {
     put_scaled(line, next, ends.upper)
 }
 
-fn main() {
+fn main(rt: HostRuntime) -> io::Result<()> {
+    let mut input = rt.stdin();
+    let mut output = rt.stdout();
     let mut record = [0u8; 30];
     let mut line = [10u8; 2281];
     let empty = Session::empty();
     let mut sessions = [empty; 8];
     let mut w = empty_week();
-    while io::read_full(0, &mut record) == 30 {
+    while let Ok(()) = input.read_exact(&mut record) {
         let number = record[1] as usize;
         if record[0] == 6 {
             let mut refusal: u32 = 0;
@@ -559,7 +606,7 @@ fn main() {
             let mut next = put(&mut line, 0, refusal);
             next = put_week(&mut line, next, w);
             put_ends(&mut line, next, week_ends(w));
-            io::write_all(1, &line);
+            output.write_all(&line)?;
         } else if record[0] == 5 {
             let none = [empty; 8];
             sessions = none;
@@ -570,5 +617,6 @@ fn main() {
             sessions[number] = called(s, &record);
         }
     }
+    Ok(())
 }
 """

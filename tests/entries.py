@@ -4,8 +4,8 @@
     python3 tests/entries.py [--root FOLDER] [--seed N]
 
 Some of the lists of calls of week_reference.py: after each entry the refusal, every number of the week and both ends.
-scratch.py runs a program that keeps eight sessions and a week and makes the calls: compiled, and on the interpreter as
-far as it gets. week.py compares all lists with the library.
+scratch.py runs a program that keeps eight sessions and a week and makes the calls, interpreted and compiled. week.py
+compares all lists with the library.
 """
 
 import pathlib
@@ -68,15 +68,20 @@ def runs(lists):
     yield run
 
 
-def compare(folder, run):
-    due = [line for _, _, of_list in run for line in of_list]
-    records = b"".join(part for _, calls, _ in run for part in (NEW_WEEK, *map(record, calls)))
-    ways = scratch.run(folder, records, "".join(due), long=True)
-    if ways:
-        at, text = scratch.report(ways, FIELDS, due)
-        names = [f"{name}, entry {n}" for name, _, of_list in run for n in range(len(of_list))]
-        print(f"{names[at]}\n{text}")
-        sys.exit("entries: this entry differs, and perhaps later ones")
+def run_of(lists):
+    """The records and the lines of some lists."""
+    records = b"".join(part for _, calls, _ in lists for part in (NEW_WEEK, *map(record, calls)))
+    return records, [line for _, _, due in lists for line in due]
+
+
+def compare(folder, parts):
+    runs = list(map(run_of, parts))
+    for part, (_, due), differs in zip(parts, runs, scratch.run(folder, runs)):
+        if differs:
+            at, text = scratch.report(differs, FIELDS, due)
+            names = [f"{name}, entry {n}" for name, _, of_list in part for n in range(len(of_list))]
+            print(f"{names[at]}\n{text}")
+            sys.exit("entries: this entry differs, and perhaps later ones")
 
 
 def main():
@@ -86,8 +91,7 @@ def main():
     with tempfile.TemporaryDirectory() as name:
         folder = pathlib.Path(name)
         scratch.repository(options.root, folder, drivers.WEEKS)
-        for run in runs(lists):
-            compare(folder, run)
+        compare(folder, list(runs(lists)))
     print("entries: %d entries of %d weeks agree" % (sum(len(due) for _, _, due in lists), len(lists)))
 
 

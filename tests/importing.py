@@ -3,7 +3,7 @@
 
     python3 tests/importing.py [--seed N]
 
-`rt staticlib jinthuol` has written the library to target/staticlib. Importing is tried where the library is missing, of
+`tools/build jinthuol` has written the library to target/staticlib. Importing is tried where the library is missing, of
 another version or no library, without gcc, twice, from other folders and where the shared object cannot be written.
 Floats and fractions are compared with exact ones, decimals with decimals.py, ends as doubles with edges.py, weeks with
 week_reference.py. Exits with 1 where anything differs.
@@ -91,7 +91,7 @@ def archive(folder, code):
 
 
 def of_wrong_libraries(folder):
-    run = "rt staticlib jinthuol"
+    run = "tools/build jinthuol"
     fails("no library", "there is no", str(folder), run, library=folder)
     fails("no folder", "there is no", run, library=folder / "nothing")
     later = archive(folder / "later", "unsigned jinthuol_version(void) { return 99; }")
@@ -417,7 +417,7 @@ def of_week(module):
 def main():
     arguments = options.parser("Tries bindings/python/jinthuol.py.").parse_args()
     if not LIBRARY.is_file():
-        sys.exit("importing: no library; `rt staticlib jinthuol` writes it")
+        sys.exit("importing: no library; `tools/build jinthuol` writes it")
     # The module says where it looks otherwise.
     os.environ.pop("JINTHUOL_LIB_DIR", None)
     for part in of_wrong_libraries, of_linking, of_the_program:

@@ -23,8 +23,6 @@ import scratch
 from reference import LARGEST, LARGEST_N
 from scaled import LEAST, LIMIT, ZERO, Scaled
 
-# The cases of one run; the interpreter takes about 1,000 steps for one.
-BATCH = scratch.MOST_STEPS // 2000
 # The numbers of a line.
 FIELDS = [("m", False), ("e", True), ("lost", False)]
 
@@ -305,26 +303,24 @@ def shown(x):
 met = set()
 
 
-def run(folder, cases):
-    """Runs the cases. Gives the index of the first one that differs, with a text on it, or None."""
-    due = [expected(case) for case in cases]
-    met.update((case.kind, lost) for case, (_, _, lost) in zip(cases, due))
-    lines = list(map(drivers.line, due))
-    ways = scratch.run(folder, b"".join(map(record, cases)), "".join(lines))
-    if not ways:
-        return None
-    first, text = scratch.report(ways, FIELDS, lines)
-    case = cases[first]
+def due(case):
+    """The numbers that are due of a case."""
+    m, e, lost = expected(case)
+    met.add((case.kind, lost))
+    return m, e, lost
+
+
+def said(case):
     direction = [" D", " U"][case.up] if KINDS[case.kind].directed else ""
     before = ", lost before: %s" % (case.lost,) if any(case.lost) else ""
-    return first, "%s%s %s %s%s\n%s" % (case.kind, direction, shown(case.x), shown(case.y), before, text)
+    return "%s%s %s %s%s" % (case.kind, direction, shown(case.x), shown(case.y), before)
 
 
 def main():
     options = scratch.arguments("Compares the arithmetic of crate encounter with scaled.py.")
     print("operations: seed %d" % options.seed)
     cases = all_cases(options.seed)
-    scratch.compare("operations", options.root, drivers.OPERATIONS, cases, BATCH, run)
+    scratch.compare("operations", options.root, drivers.OPERATIONS, FIELDS, cases, record, due, said)
     unmet = {(name, lost) for name, kind in KINDS.items() if kind.directed for lost in (0, 1)} - met
     if unmet:
         sys.exit("operations: no case of %s" % sorted(unmet))

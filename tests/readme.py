@@ -4,7 +4,7 @@ stored-script.md, week.md and without-empty-adds.md, as they stand there, and co
 
     python3 tests/readme.py
 
-After `rt check screen`, `rt check drop_empty_adds` and `rt staticlib jinthuol`. What is built goes to target/. Exits
+After `tools/build screen`, `tools/build drop_empty_adds` and `tools/build jinthuol`. What is built goes to target/. Exits
 with 1 where anything differs.
 """
 
@@ -480,7 +480,7 @@ def main():
     prints(command, listing)
     [archive, *compilers, command], due, [header], *code = blocks(section("From C and C++"))
     checks.check(len(code) == 6, "commands", f"the parts of C: {len(code)}")
-    checks.check(archive == "rt staticlib jinthuol", "commands", f"the library: {archive}")
+    checks.check(archive == "tools/build jinthuol", "commands", f"the library: {archive}")
     command_with_object, command_as_advised = re.findall(r"`(echo .+? \| target/example)`", section("From C and C++"))
     programs = [compiler.split()[-1] for compiler in compilers]
     for program, compiler in zip(programs, compilers):

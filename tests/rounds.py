@@ -31,8 +31,8 @@ FIELDS = [
 ]
 # The lines of an encounter: k from 0 to the cut, and what a begin takes.
 LINES = EXPONENTIAL_CUT + 2
-# The encounters of one run: the interpreter takes fewer than 1,000,000 steps for one.
-BATCH = scratch.MOST_STEPS // 1_000_000
+# The encounters of one run.
+BATCH = scratch.MOST_WRITTEN // (LINES * drivers.line_length(FIELDS))
 # The least t, the largest, and t = 1/2.
 EDGES = [THIN, AT_64, HALF]
 DRAWN = 12
@@ -56,15 +56,21 @@ def lines(encounter):
     return [drivers.line(number for side in both for x in side for number in x[:2]) for both in [*zip(*made), taken]]
 
 
-def compare(folder, batch):
-    due = [line for encounter in batch for line in lines(encounter)]
-    ways = scratch.run(folder, b"".join(struct.pack("<IIIii", *encounter) for encounter in batch), "".join(due))
-    if ways:
-        at, text = scratch.report(ways, FIELDS, due)
-        index, k = divmod(at, LINES)
-        place = "at k = %d" % k if k < LINES - 1 else "as a begin takes them"
-        print("%s, %s\n%s" % (tuple(batch[index]), place, text))
-        sys.exit("rounds: these numbers differ, and perhaps later ones")
+def run_of(batch):
+    """The records and the lines of some encounters."""
+    records = b"".join(struct.pack("<IIIii", *encounter) for encounter in batch)
+    return records, [line for encounter in batch for line in lines(encounter)]
+
+
+def compare(folder, batches):
+    runs = list(map(run_of, batches))
+    for batch, (_, due), differs in zip(batches, runs, scratch.run(folder, runs)):
+        if differs:
+            at, text = scratch.report(differs, FIELDS, due)
+            index, k = divmod(at, LINES)
+            place = "at k = %d" % k if k < LINES - 1 else "as a begin takes them"
+            print("%s, %s\n%s" % (tuple(batch[index]), place, text))
+            sys.exit("rounds: these numbers differ, and perhaps later ones")
 
 
 def main():
@@ -74,8 +80,7 @@ def main():
     with tempfile.TemporaryDirectory() as name:
         folder = pathlib.Path(name)
         scratch.repository(options.root, folder, drivers.ROUNDS)
-        for at in range(0, len(found), BATCH):
-            compare(folder, found[at : at + BATCH])
+        compare(folder, [found[at : at + BATCH] for at in range(0, len(found), BATCH)])
     print("rounds: %d rounds of %d encounters agree" % (EXPONENTIAL_CUT * len(found), len(found)))
 
 

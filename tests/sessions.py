@@ -6,8 +6,7 @@ read_doubles and read_plot_record of crate `host`, with reference.py.
 
 After each call every field of the answer, every number of the session and what advise, read_doubles and
 read_plot_record answer on it are compared. scratch.py runs a program that keeps a session and makes the calls; of the
-first three every other one is the call on a lent session. Short sequences of calls run interpreted and compiled; the
-long ones run compiled, and on the interpreter as far as it gets.
+first three every other one is the call on a lent session. It runs interpreted and compiled.
 """
 
 import collections
@@ -272,7 +271,7 @@ def of_advice(rng):
         yield [call for inputs in tried for call in (begin(*inputs), add(1), rng.choice(REFUSED), add(3))]
 
 
-# The orders that a run on the interpreter comes to for the ends as doubles.
+# The last order at which the short sequences have the ends as doubles.
 EARLY = 30
 
 
@@ -390,33 +389,18 @@ LONG = [to_largest, at_far_test_23, beside_whole_M, at_advice, as_later_doubles,
 
 # The run.
 
-# About the interpreter's steps for a call and its line, for what an accepted begin does, and for a term; and how many more
-# for one of the first terms, before the first loss.
-CALL_STEPS, BEGIN_STEPS, TERM_STEPS, FIRST_STEPS = 28_000, 220_000, 5_500, 7_500
-FIRST_TERMS = 6
-RUN_STEPS = scratch.MOST_STEPS * 95 // 100
+# The calls of one run.
+BATCH = scratch.MOST_WRITTEN // drivers.line_length(fields.FIELDS)
 
 
-def steps(one):
-    if one.answer.refusal:
-        return CALL_STEPS
-    if one.call.kind in BEGINS:
-        return CALL_STEPS + BEGIN_STEPS
-    if one.call.kind != "add":
-        return CALL_STEPS
-    (count,) = one.call.inputs
-    return CALL_STEPS + TERM_STEPS * count + FIRST_STEPS * min(count, FIRST_TERMS)
-
-
-def runs(sequences, most, size):
-    """The sequences, joined to runs of at most this size."""
-    run, taken = [], 0
+def runs(sequences):
+    """The sequences, joined to runs."""
+    run = []
     for sequence in sequences:
-        more = sum(map(size, sequence))
-        if run and taken + more > most:
+        if run and len(run) + len(sequence) > BATCH:
             yield run
-            run, taken = [], 0
-        run, taken = run + sequence, taken + more
+            run = []
+        run = run + sequence
     yield run
 
 
@@ -433,14 +417,14 @@ def before(run, first):
     return "at N = %d of %s, after %d calls, the last %s" % (held.N, inputs, len(calls), ", ".join(calls[-4:]))
 
 
-def compare(folder, run, long):
-    lines = [one.line for one in run]
-    ways = scratch.run(folder, b"".join(record(one.call) for one in run), "".join(lines), long)
-    if ways:
-        first, text = scratch.report(ways, fields.FIELDS, lines)
-        print("%s, %s\n%s" % (run[first].call, before(run, first), text))
-        print("sessions: this call differs, and perhaps later ones")
-        sys.exit(1)
+def compare(folder, parts):
+    given = [(b"".join(record(one.call) for one in run), [one.line for one in run]) for run in parts]
+    for run, (_, lines), differs in zip(parts, given, scratch.run(folder, given)):
+        if differs:
+            first, text = scratch.report(differs, fields.FIELDS, lines)
+            print("%s, %s\n%s" % (run[first].call, before(run, first), text))
+            print("sessions: this call differs, and perhaps later ones")
+            sys.exit(1)
 
 
 def every_other_lent(calls, counts):
@@ -462,16 +446,12 @@ def sequences(parts, seed):
 def main():
     options = scratch.arguments("Compares the calls of crates encounter, advice and host with reference.py.")
     print("sessions: seed %d" % options.seed)
-    calls = []
+    parts = list(runs(itertools.chain(sequences(SHORT, options.seed), sequences(LONG, options.seed))))
     with tempfile.TemporaryDirectory() as name:
         folder = pathlib.Path(name)
         scratch.repository(options.root, folder, drivers.SESSIONS)
-        short = runs(sequences(SHORT, options.seed), RUN_STEPS, steps)
-        length = drivers.line_length(fields.FIELDS)
-        long = runs(sequences(LONG, options.seed), scratch.MOST_WRITTEN, lambda one: length)
-        for run, is_long in itertools.chain(((run, False) for run in short), ((run, True) for run in long)):
-            compare(folder, run, is_long)
-            calls += [one for one in run if one.call != EMPTY]
+        compare(folder, parts)
+    calls = [one for run in parts for one in run if one.call != EMPTY]
     answered = {(one.call.kind, one.call.lent, one.answer.refusal) for one in calls}
     due = {(kind, lent, answer) for kind, answer in edges.ANSWERS for lent in (False, True) if (kind, lent) in NUMBERS}
     if answered != due:

@@ -36,8 +36,8 @@ ENCOUNTERS = {
     "E₇": (18, 4, 3, 36, 9),
 }
 # What a right side may have besides numbers.
-LITERALS = {"scaled", "negsuc", "pos", "over", "whole", "nought", "a-half", "an-eighth", "^", "+", "(", ")"}
-TOKEN = re.compile(r"\s*([()]|\d+|[+^⊗]|\.?[^\s()+^⊗]+)")
+LITERALS = {"scaled", "negsuc", "pos", "over", "whole", "nought", "a_half", "an_eighth", "^", "+", "(", ")"}
+TOKEN = re.compile(r"\s*([()]|\d+|[+^⊗]|\.?[^\s()+^⊗.]+)")
 
 checks = Checks("stars")
 
@@ -90,18 +90,18 @@ NAMES = {
     "c": (2, lambda E, n: exact(E)["a"][n] / factorial(n + 1)),
     "series": (2, lambda E, N: sum(exact(E)["a"][n] / factorial(n + 1) for n in range(N))),
     "exponential": (2, lambda E, K: sum(exact(E)["t"] ** k / factorial(k) for k in range(K))),
-    "side-letters": (2, lambda up, E: reference.first(rounded.UP if up else rounded.DOWN, *E)),
-    "side-start": (2, lambda up, E: pair(side(up, E, 1).c)),
-    "side-terms": (3, lambda up, E, n: side(up, E, n + 1)),
+    "side_letters": (2, lambda up, E: reference.first(rounded.UP if up else rounded.DOWN, *E)),
+    "side_start": (2, lambda up, E: pair(side(up, E, 1).c)),
+    "side_terms": (3, lambda up, E, n: side(up, E, n + 1)),
     "M": (1, lambda E: pair(reference.M_of(reference.first(rounded.UP, *E)))),
     "d": (2, lambda E, n: pair(at(E, n).d)),
-    "tail-bound": (2, lambda E, N: 2 * value(pair(at(E, N).d))),
-    "lower-end": (2, lambda E, N: pair(at(E, N).read().lower)),
-    "upper-end": (2, lambda E, N: pair(at(E, N).read().upper)),
+    "tail_bound": (2, lambda E, N: 2 * value(pair(at(E, N).d))),
+    "lower_end": (2, lambda E, N: pair(at(E, N).read().lower)),
+    "upper_end": (2, lambda E, N: pair(at(E, N).read().upper)),
     "begins": (1, lambda E: lambda session: begun(E)),
     "adds": (1, lambda count: lambda session: session.add(count)),
     # The encounter with an object number and a time of 0, as a begin of kind 1 has it.
-    "no-object": (1, lambda E: E),
+    "no_object": (1, lambda E: E),
     "state": (2, at),
     "call": (2, lambda c, session: {"answer": c(session)}),
 }
@@ -110,8 +110,8 @@ VALUES = {
     "true": True,
     "false": False,
     "nought": (0, 0),
-    "a-half": (1 << 31, -32),
-    "an-eighth": (1 << 31, -34),
+    "a_half": (1 << 31, -32),
+    "an_eighth": (1 << 31, -34),
     "empty": reference.Session(),
     "reads": lambda session: session.read(),
 }
@@ -130,32 +130,24 @@ def field(x, name):
 
 
 def applied(tokens):
-    """A name with its arguments and fields, or one number."""
+    """A name with its arguments, or one argument alone."""
+    if tokens[0] not in NAMES:
+        return argument(tokens)
+    arity, function = NAMES[tokens.pop(0)]
+    return function(*[argument(tokens) for _ in range(arity)])
+
+
+def argument(tokens):
+    """A text in parentheses, a number or a name, and its fields."""
     token = tokens.pop(0)
     if token == "(":
         result = computed(tokens)
         tokens.pop(0)
-    elif token.isdecimal():
-        result = int(token)
-    elif token in VALUES:
-        result = VALUES[token]
     else:
-        arity, function = NAMES[token]
-        result = function(*[applied_alone(tokens) for _ in range(arity)])
+        result = int(token) if token.isdecimal() else VALUES[token]
     while tokens and tokens[0].startswith("."):
         result = field(result, tokens.pop(0)[1:])
     return result
-
-
-def applied_alone(tokens):
-    """One argument: a text in parentheses, a number or a name."""
-    if tokens[0] == "(":
-        tokens.pop(0)
-        result = computed(tokens)
-        tokens.pop(0)
-        return result
-    token = tokens.pop(0)
-    return int(token) if token.isdecimal() else VALUES[token]
 
 
 def computed(tokens, least=0):
@@ -172,12 +164,11 @@ def sides(text):
     tokens, parts = TOKEN.findall(text), []
     while tokens:
         depth, part = 0, []
-        while True:
+        # Up to the end of an argument and of its fields.
+        while not part or depth or (tokens and tokens[0].startswith(".")):
             token = tokens.pop(0)
             part.append(token)
             depth += (token == "(") - (token == ")")
-            if depth == 0:
-                break
         parts.append(part)
     return parts
 
@@ -189,7 +180,7 @@ def cases():
         line = line.strip().removeprefix("∷ ")
         if line.startswith("--"):
             found.append([])
-        elif "-is " in line:
+        elif "_is " in line:
             found[-1].append(line)
     return found
 
@@ -202,7 +193,7 @@ def main():
         kind, text = row.split(" ", 1)
         left, right = sides(text)
         checks.check(computed(list(left)) == computed(list(right)), "rows", f"does not hold: {row}")
-        if kind == "answer-is":
+        if kind == "answer_is":
             says = [token.replace("E₄", "E₂") for token in left] == right and left != right
         else:
             says = all(token.isdecimal() or token in LITERALS for token in right)

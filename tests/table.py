@@ -17,22 +17,24 @@ from advice import ORDERS
 FIELDS = [("order", False)]
 
 
-def run(folder, cases):
-    """Runs the cases, each an index of the table and the order there.
+# Of a case, which is an index of the table.
 
-    Gives the index of the first case that differs, with a text on it, or None.
-    """
-    lines = [drivers.line([order]) for _, order in cases]
-    ways = scratch.run(folder, bytes(index for index, _ in cases), "".join(lines))
-    if not ways:
-        return None
-    first, text = scratch.report(ways, FIELDS, lines)
-    return first, "M = %d\n%s" % (cases[first][0] + 1, text)
+
+def record(index):
+    return bytes([index])
+
+
+def due(index):
+    return [ORDERS[index]]
+
+
+def said(index):
+    return "M = %d" % (index + 1)
 
 
 def main():
     options = scratch.arguments("Compares the table of orders of crate advice with advice.py.")
-    scratch.compare("table", options.root, drivers.ORDERS, list(enumerate(ORDERS)), len(ORDERS), run)
+    scratch.compare("table", options.root, drivers.ORDERS, FIELDS, range(len(ORDERS)), record, due, said)
     print("table: %d orders agree" % len(ORDERS))
 
 

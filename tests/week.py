@@ -3,7 +3,7 @@
 
     python3 tests/week.py [--library FOLDER] [--seed N]
 
-The folder holds the library; `rt staticlib jinthuol` writes it to target/staticlib. The lists of calls of
+The folder holds the library; `tools/build jinthuol` writes it to target/staticlib. The lists of calls of
 week_reference.py go through week.c, compiled as C and as C++, and through bindings/python. After each entry the
 refusal, every number of every place and both ends are compared. Then weeks whose encounters and orders are known: the
 greatest of the exact quotients, each cut later, is at or above the lower end, and their sum is at or below the upper

@@ -4,8 +4,8 @@ files, runs that fail.
 
     python3 tests/wrapper.py
 
-The programs are built already (`rt check screen`, `rt check drop_empty_adds`). How a wrapper has its program built is
-tried on a copy, with a toolchain of the test's own that builds at once, fails or is not there. Exits with 1 where
+The programs are built already (`tools/build screen`, `tools/build drop_empty_adds`). How a wrapper has its program built
+is tried on a copy, with a toolchain of the test's own that builds at once, fails or is not there. Exits with 1 where
 anything differs.
 """
 
@@ -35,8 +35,10 @@ PROGRAMS = ROOT / "target/bin"
 # Seconds for one run.
 LONGEST_RUN = 60
 NOBODY = 65534
+# What builds a program.
+BUILD = ROOT / "tools/build"
 # What the wrappers need besides the toolchain.
-TOOLS = "sh cat dirname readlink sed find head tail wc tr mkdir touch flock"
+TOOLS = "sh cat dirname readlink sed find head tail wc tr mkdir touch flock cp mv"
 
 checks = Checks("wrapper")
 
@@ -179,14 +181,14 @@ def of_failures(wrapper, folder):
 # The build, on a copy.
 
 WAITING = "another run builds a program: waiting for it"
-# Says what it was asked, and 'builds' a program by copying it, where it is not there.
+# Says what it was asked and of which crate, and 'builds' a program by copying it, where it is not there.
 TOOLCHAIN = f"""#!/bin/sh
-echo "$*" >>asked
+crate=${{PWD##*/}}
+echo "$* $crate" >>../../asked
 echo "words of the toolchain"
-test -e fails && exit 1
-test -e "{PROGRAMS}/$2" || exit 0
-mkdir -p target/bin
-test -e "target/bin/$2" || {shutil.which("cp")} "{PROGRAMS}/$2" "target/bin/$2"
+test -e ../../fails && exit 1
+mkdir -p out
+test "$1" != run || test -e "out/$crate" || cp "{PROGRAMS}/$crate" out
 """
 
 
@@ -219,9 +221,11 @@ def asked(folder):
 def of_build(wrapper, folder):
     name, crates, expect, refuses = wrapper.name, wrapper.crates, wrapper.expect, wrapper.refuses
     copy = folder / "repository with spaces"
-    shutil.copytree(ROOT / "crates", copy / "crates")
+    shutil.copytree(ROOT / "crates", copy / "crates", ignore=shutil.ignore_patterns("out"))
     for path in wrapper.path, SHARED:
         shutil.copy(path, copy)
+    (copy / "tools").mkdir()
+    shutil.copy(BUILD, copy / "tools")
     # The other program's line is not looked at.
     [other] = {each.name for each in WRAPPERS} - {name}
     lines = (ROOT / "crates.txt").read_text().splitlines()
@@ -246,7 +250,7 @@ def of_build(wrapper, folder):
     wrapper.check(crates[0] == "exact" and crates[-1] == name, f"the crates: {crates}")
     due = [f"{name}: proving {crate} ({n} of {len(crates)})" for n, crate in enumerate(crates, 1)]
     expect("what is proved", said[1:], due)
-    expect("what was asked", asked(copy), [f"check {crate}" for crate in crates])
+    expect("what was asked", asked(copy), [*(f"lib {crate}" for crate in crates[:-1]), f"run {name}"])
     expect("the second run", (run(with_rt), asked(copy)), (wrapper.whole, []))
     expect("without the toolchain", run(without), wrapper.whole)
     built = (0, wrapper.written), len(crates)
@@ -260,12 +264,14 @@ def of_build(wrapper, folder):
         expect(f"{changed} is newer no more", (run(with_rt), asked(copy)), (wrapper.whole, []))
     os.utime(copy / "crates/customer/src/lib.rt")
     expect("another crate is newer", (run(with_rt), asked(copy)), (wrapper.whole, []))
+    (copy / "crates/exact/out/made").touch()
+    expect("what the toolchain made is newer", (run(with_rt), asked(copy)), (wrapper.whole, []))
     (copy / "crates/exact/specs/Scaled.antt").unlink()
     expect("a file is gone", (run(with_rt)[:2], len(asked(copy))), built)
     (copy / "fails").touch()
     os.utime(copy / "crates.txt")
     status, stdout, stderr = run(with_rt)
-    expect("a proof that fails", (status, stdout, asked(copy)), (1, b"", ["check exact"]))
+    expect("a proof that fails", (status, stdout, asked(copy)), (1, b"", ["lib exact"]))
     words = f"words of the toolchain\n{name}: exact was not proved; target/{name}.log has all"
     wrapper.check(words in stderr, f"a failed proof: {stderr}")
     wrapper.check((copy / f"target/{name}.log").is_file(), "the log of a failed proof")
@@ -349,7 +355,7 @@ def main():
     options.parser("Tries ./screen and ./drop_empty_adds.").parse_args()
     for wrapper in WRAPPERS:
         if not os.access(wrapper.program, os.X_OK):
-            sys.exit(f"wrapper: no program at {wrapper.program}; `rt check {wrapper.name}` builds it")
+            sys.exit(f"wrapper: no program at {wrapper.program}; `tools/build {wrapper.name}` builds it")
         # Files with a later date, as an editor leaves them, are no part of this test.
         wrapper.run(SCRIPT)
         for part in of_use, of_wrong_use, of_failures, of_build:

@@ -6,7 +6,7 @@
  * With an N of 1 no term is added, and there are two answers. An N of 0 stands for the advised order, which is printed too; where there is none, nothing is added
  * or read. The last line has both ends of the week, in the words of a listing too.
  *
- *     rt staticlib jinthuol
+ *     tools/build jinthuol
  *     gcc -std=c99 -I bindings/c bindings/c/example.c target/staticlib/libjinthuol.a -lm -o target/example
  *     echo 500 5000 100 1000 0 55 | target/example
  *     echo 500 5000 100 1000 0 55 25544 1440 | target/example

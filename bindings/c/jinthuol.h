@@ -18,7 +18,7 @@
  *     jinthuol_conjunction conjunction = {test_1, 25544, 1440}; object 25544, at minute 1440
  *     jinthuol_begin_conjunction(&session, conjunction);        N is 1; reads answer 25544 and 1440
  *
- * The functions are those of libjinthuol.a; `rt staticlib jinthuol` writes it to target/staticlib. example.c beside this file prints their answers.
+ * The functions are those of libjinthuol.a; `tools/build jinthuol` writes it to target/staticlib. example.c beside this file prints their answers.
  * README.md has the inputs in plain words, docs/TRUST.md what is proved of the functions and what is not.
  *
  * Refusals. Each test is made in this order, and the first that refuses gives its number; 0 is accepted.

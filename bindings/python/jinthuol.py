@@ -106,7 +106,7 @@ The chance of at least one collision in these encounters lies between the week's
     (0.07647388530313037, 0.08621540840249509)
 
 The library libjinthuol.a is in the folder that JINTHUOL_LIB_DIR names, else in target/staticlib of the repository,
-where `rt staticlib jinthuol` writes it. At the first import gcc links it into a shared object beside it,
+where `tools/build jinthuol` writes it. At the first import gcc links it into a shared object beside it,
 libjinthuol.so; later imports take that. Where there is no library, or it cannot be linked or is of another version,
 importing raises ImportError.
 """
@@ -545,7 +545,7 @@ def linked(archive, shared):
 def load():
     here = pathlib.Path(__file__).resolve().parent
     folder = pathlib.Path(os.environ.get("JINTHUOL_LIB_DIR") or here / "../../target/staticlib")
-    again = "run `rt staticlib jinthuol` in the folder of the repository"
+    again = "run `tools/build jinthuol` in the folder of the repository"
     try:
         archive = folder.resolve() / "libjinthuol.a"
         shared = archive.with_suffix(".so")

@@ -13,7 +13,7 @@ fn main() {
     println!("cargo::rerun-if-changed={}", archive.display());
     if !archive.is_file() {
         eprintln!("There is no {}.", archive.display());
-        eprintln!("`rt staticlib jinthuol` writes it to target/staticlib.");
+        eprintln!("`tools/build jinthuol` writes it to target/staticlib.");
         eprintln!("JINTHUOL_LIB_DIR can name another folder, by its full path.");
         process::exit(1);
     }
