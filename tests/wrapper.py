@@ -171,7 +171,7 @@ def of_failures(wrapper, folder):
     os.close(directory)
     closed = f"exec >&-; exec '{wrapper.path}' '{SCRIPT}'"
     refuses("standard output is closed", run("-c", closed, path="sh"), 1, "is closed")
-    # A reader that is gone: the signal ends the program, and the status tells.
+    # A reader that is gone: the write fails, and the status tells.
     ours, theirs = os.pipe()
     os.close(ours)
     wrapper.check(run(SCRIPT, stdout=theirs)[0] != 0, "a reader that is gone")

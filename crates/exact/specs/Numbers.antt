@@ -32,10 +32,6 @@ days_a_week = 7
 abbrev pub places_a_day : ℕ
 places_a_day = 8
 
--- request #112: the windows of a list, tested by 25
-abbrev pub most_windows : ℕ
-most_windows = 64
-
 -- the class: the threshold is 1 over this. Alert is at the threshold or above, clear is below it
 abbrev pub threshold_odds : ℕ
 threshold_odds = 10000

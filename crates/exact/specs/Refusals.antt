@@ -1,14 +1,12 @@
 -- Document 01, 'Script records': both tables of refusals, in their order, each test once, with tests 9, 11 and 12 of requests #104, #109 and #110 of document 02; then
--- tests 13 and 24 of request #111, of the week, tests 25 to 27 of request #112, of the windows, and test 10 of request #107, of the division. A test is true where it
--- refuses.
-use Rattle.std.specs.Prelude.{◌≡◌, Bool, true, not, cond, ◌&&◌, ◌||◌, List, [], ◌∷◌, ℕ, ◌+◌, ◌^◌, ltb, leb, eqb, ℤ, nat_abs, length, get_or}
+-- tests 13 and 24 of request #111, of the week, and test 10 of request #107, of the division. A test is true where it refuses.
+use Rattle.std.specs.Prelude.{◌≡◌, Bool, true, not, cond, ◌&&◌, ◌||◌, List, ℕ, ◌+◌, ◌^◌, ltb, leb, eqb, ℤ, nat_abs, length, get_or}
 use Rattle.exact.specs.declared.Encounter.{Encounter}
 use Rattle.exact.specs.declared.Conjunction.{Conjunction}
 use Rattle.exact.specs.declared.Scaled.{Scaled}
-use Rattle.exact.specs.declared.Window.{Window}
 use Rattle.exact.specs.Integer.{neg_part}
 use Rattle.exact.specs.Fraction.{whole, ◌⊗◌, above}
-use Rattle.exact.specs.Numbers.{largest_length, largest_t, largest_order, largest_script, lowest_exponent, days_a_week, places_a_day, most_windows}
+use Rattle.exact.specs.Numbers.{largest_length, largest_t, largest_order, largest_script, lowest_exponent, days_a_week, places_a_day}
 use Rattle.exact.specs.Scaled.{value}
 use Rattle.exact.specs.Steps.{side_letters, M}
 use Rattle.exact.specs.Records.{is_kind, body_length, Request, begin, begin_conjunction, add, read, bad, request_of}
@@ -135,30 +133,6 @@ test_24 earlier place = cond (eqb earlier 0) (cond (refuses_24 place) 24 0) earl
 -- the number under which an entry is refused, or 0: 13, the read's 21 and 23, 24
 unfoldable pub entry_refusal : History → (day place : ℕ) → ℕ
 entry_refusal w day place = cond (refuses_13 day) 13 (test_24 (refusal w read) place)
-
--- ---- request #112: "It refuses the whole list, as 25, for a 65th window, as 26 for a window that closes at or before its opening, and as 27 for one that opens before
--- its predecessor closes; 25 is tested first, then window by window 26 before 27."
-
--- 25: latest_burn: a 65th window
-unfoldable pub refuses_25 : List Window → Bool
-refuses_25 l = ltb most_windows (length l)
-
--- 26: latest_burn: a window that closes at or before its opening
-unfoldable pub refuses_26 : Window → Bool
-refuses_26 w = leb w.closing w.opening
-
--- 27: latest_burn: a window that opens before its predecessor closes; closed is the minute at which that one closes, and 0 where there is none: no minute is before 0
-unfoldable pub refuses_27 : (closed : ℕ) → Window → Bool
-refuses_27 closed w = ltb w.opening closed
-
--- "window by window 26 before 27": the number of the first test that refuses one of the windows, or 0
-unfoldable pub refusal_after : (closed : ℕ) → List Window → ℕ
-refusal_after closed [] = 0
-refusal_after closed (w ∷ l) = cond (refuses_26 w) 26 (cond (refuses_27 closed w) 27 (refusal_after w.closing l))
-
--- the number under which a list is refused, or 0
-unfoldable pub list_refusal : List Window → ℕ
-list_refusal l = cond (refuses_25 l) 25 (refusal_after 0 l)
 
 -- ---- request #107: "It refuses, as 10 and with zero as the result, a divisor of 0, a number not in the scaled form, or one whose e is below −1,000,000,000."
 

@@ -1,4 +1,4 @@
-// The scaled number of document 01, with the constants and the constructor that belong to it, a scaled number with whether something was lost on its way, the five inputs of an encounter, a conjunction, a decimal, a window, and the paper's limits.
+// The scaled number of document 01, with the constants and the constructor that belong to it, a scaled number with whether something was lost on its way, the five inputs of an encounter, a conjunction, a decimal, and the paper's limits.
 // All else in this crate is definitions (specs/) and theorems (proofs/).
 #![tactic(auto)]
 
@@ -23,8 +23,6 @@ pub const LOWEST_EXPONENT: i32 = -1000000000;
 pub const DAYS_A_WEEK: usize = 7;
 
 pub const PLACES_A_DAY: usize = 8;
-
-pub const MOST_WINDOWS: usize = 64;
 
 // "Inputs are whole centimetres: combined radius R, larger standard deviation sx, smaller sy, mean miss xm and ym."
 #[repr(C)]
@@ -67,14 +65,6 @@ pub struct Traced {
 pub struct Decimal {
     pub digits: u32,
     pub power: u32,
-}
-
-// Request #112: a quiet window, "an opening minute and a closing minute, the closing one not included".
-#[repr(C)]
-#[derive(Clone, Copy)]
-pub struct Window {
-    pub opening: u32,
-    pub closing: u32,
 }
 
 // -t, for a t that fits.

@@ -1,5 +1,5 @@
 // The library for programs in other languages: the calls of crate encounter, the advised order, ends as doubles, the week, numbers in decimal, the division by a whole
-// number and the listing of a script, under names of C.
+// number and the listing of a script, under names of C. Crate jinthuol_c exports them.
 #![tactic(auto)]
 
 ghost use Rattle.std.specs.Prelude.{◌≡◌};

@@ -10,7 +10,7 @@ ghost use Rattle.division.specs.Division.{divided, Says};
 ghost use Rattle.host.specs.Doubles.{doubles as host_doubles, Says as DoublesSay};
 ghost use Rattle.host.specs.Plot.{plotted as host_plotted, Stores};
 ghost use Rattle.jinthuol.specs.Advice.{advice_numbers, told};
-ghost use Rattle.jinthuol.specs.Answer.{class_number, numbered, called};
+ghost use Rattle.jinthuol.specs.Answer.{numbered};
 ghost use Rattle.jinthuol.specs.Doubles.{doubles_numbers, doubles_told, plotted_numbers, plotted_told};
 ghost use Rattle.jinthuol.specs.Run.{RunOf};
 ghost use Rattle.jinthuol.specs.Version.{version};

@@ -20,5 +20,5 @@ returns c =
     let a = c.args in
     let given = c.struct_told-1.given in
     let h : SFits w32 a.number.e = record { sfits = given.1.0.1 } in
-    let n : Normal 32 a.number = record { low = omega (arith, c.if-m-lt2147483648.false); high = given.0.1 } in
+    let n : Normal 32 a.number = record { low = omega arith; high = given.0.1 } in
     rw (c.too_low.ensures, to_z-of_z {w = w32} h) (of_normal a.number a.divisor (λ z. omega (arith, z, c.if-divisor-eq0.false)) n)
