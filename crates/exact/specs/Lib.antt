@@ -9,5 +9,6 @@ pub mod Arithmetic
 pub mod Steps
 pub mod Losses
 pub mod Records
+pub mod Kinds
 pub mod Refusals
 pub mod Decimals

@@ -7,6 +7,9 @@ ghost use Rattle.exact.specs.Fraction.{◌≈◌, whole as whole_number};
 ghost use Rattle.exact.specs.Scaled.{value};
 ghost use Rattle.exact.specs.Private.Round.{round};
 
+pub mod kinds;
+pub mod refusals;
+
 // The limits of specs/Numbers.antt.
 pub const LARGEST_LENGTH: u32 = 10000000;
 
