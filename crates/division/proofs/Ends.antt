@@ -19,7 +19,7 @@ use Rattle.encounter.specs.Claims.{Readable}
 use Rattle.encounter.specs.Private.Held.{Begun}
 use Rattle.encounter.proofs.calls.AcceptedReads.{read_of}
 use Rattle.encounter.proofs.calls.Invariant.{begun, encloses}
-use Rattle.encounter.proofs.calls.Reading.{lower_end_fine, upper_end_fine}
+use Rattle.encounter.proofs.calls.ReadNumbers.{lower_end_fine, upper_end_fine}
 use Rattle.division.specs.Division.{divided}
 use Rattle.division.specs.Claims.{DividesEnds}
 use Rattle.division.proofs.Refusing.{in_range_passes}

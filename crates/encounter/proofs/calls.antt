@@ -1,4 +1,4 @@
-pub mod Reading
+pub mod ReadNumbers
 pub mod Answering
 pub mod Conjunctions
 pub mod Stars

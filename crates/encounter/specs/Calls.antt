@@ -1,6 +1,8 @@
 -- Document 01, 'Script records': the calls, what each answers and the session after it, told from the history: no encounter, or one with its object number and
 -- its time, and the order N.
-use Rattle.std.specs.Prelude.{cond, List, ℕ, ◌+◌, eqb}
+use Rattle.std.specs.Prelude.{cond, List, ℕ, ◌+◌, eqb, Result, Ok, Err}
+use Rattle.exact.specs.declared.refusals.Refusal.{Refusal}
+use Rattle.exact.specs.Kinds.{number_of}
 use Rattle.exact.specs.declared.Encounter.{Encounter}
 use Rattle.exact.specs.declared.Conjunction.{Conjunction}
 use Rattle.exact.specs.Records.{Request, begin, begin_conjunction, add, read, bad}
@@ -59,6 +61,11 @@ accepted_answer (bad r) w = refused r
 -- "A refusal [..] changes neither session nor script."
 abbrev pub refusing : ℕ → Session → Called
 refusing r s = record { answer = refused r; session = s }
+
+-- what a begin or an add answers, and the session after it, where code has the session that it leaves or why it is refused, and s is the session before
+abbrev pub called : Session → Result Session Refusal → Called
+called s (Ok t) = record { answer = counted t.N; session = t }
+called s (Err e) = refusing (number_of e) s
 
 -- what a request is answered, and the session after it, where the history tells w and the session is s
 unfoldable pub outcome : History → Request → Session → Called

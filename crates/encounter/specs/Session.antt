@@ -1,12 +1,14 @@
 -- Document 01, 'Script records': the session, empty and after a begin, and what is answered; the class by request #101 of document 02, the decimals by #103, object and
 -- time by #104, the count of exact terms by #105.
-use Rattle.std.specs.Prelude.{Bool, true, false, cond, not, ◌&&◌, ℕ, pred, pos}
+use Rattle.std.specs.Prelude.{Bool, true, false, cond, not, ◌&&◌, ℕ, pred, pos, Result, Ok, Err}
+use Rattle.exact.specs.declared.refusals.Refusal.{Refusal}
 use Rattle.exact.specs.declared.Encounter.{Encounter}
 use Rattle.exact.specs.declared.Conjunction.{Conjunction}
 use Rattle.exact.specs.declared.Scaled.{Scaled}
 use Rattle.exact.specs.declared.Decimal.{Decimal}
 use Rattle.exact.specs.Scaled.{nought, value}
 use Rattle.exact.specs.Decimals.{decimal_of}
+use Rattle.exact.specs.Kinds.{number_of}
 use Rattle.exact.specs.Losses.{exact_terms, lossless}
 use Rattle.exact.specs.Steps.{side_letters, side_terms, exponential_sum, r256, M, d, lower_end, upper_end, alert, clear}
 use Rattle.encounter.specs.declared.state.Side.{Side}
@@ -14,6 +16,7 @@ use Rattle.encounter.specs.declared.state.Session.{Session}
 use Rattle.encounter.specs.declared.state.Class.{Class}
 use Rattle.encounter.specs.declared.state.Class.TheVariants.{Clear, Alert, Open}
 use Rattle.encounter.specs.declared.state.Answer.{Answer}
+use Rattle.encounter.specs.declared.state.Reading.{Reading}
 
 -- ---- the session
 
@@ -87,6 +90,21 @@ refused r = record { refusal = r; N = 0; lower = nought; upper = nought; class =
 -- An accepted begin or add answers the order after it. The paper leaves its other fields free: they are those of a refusal.
 abbrev pub counted : ℕ → Answer
 counted N = record { refusal = 0; N = N; lower = nought; upper = nought; class = Clear; object = 0; time = 0; exact = 0 }
+
+-- the answer of a read, where code has what it reads or why it is refused
+abbrev pub answer_of : Result Reading Refusal → Answer
+answer_of (Ok x) =
+    record {
+      refusal = 0;
+      N = x.N;
+      lower = x.lower;
+      upper = x.upper;
+      class = x.class;
+      object = x.object;
+      time = x.time;
+      exact = x.exact;
+    }
+answer_of (Err e) = refused (number_of e)
 
 -- Request #101, for each class whether two ends fall under it: "Alert remains where the lower end × 10,000 ≥ 1. Clear now needs the upper end × 10,000 below 1.
 -- Anything between is `open`"

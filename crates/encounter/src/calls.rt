@@ -1,9 +1,9 @@
 // begin, with and without object and time, add and read, by value.
 ghost use Rattle.std.specs.Prelude.{◌≡◌, ◌+◌, ◌≤◌};
 ghost use Rattle.exact.specs.Numbers.{largest_order};
-ghost use Rattle.encounter.specs.Session.{empty as empty_session, state, conjunction_of};
+ghost use Rattle.encounter.specs.Session.{empty as empty_session, state, conjunction_of, answer_of};
 ghost use Rattle.encounter.specs.Private.Held.{Begun, at_order};
-ghost use Rattle.encounter.specs.Calls.{begins, begins_conjunction, adds, reads, call, Reached};
+ghost use Rattle.encounter.specs.Calls.{begins, begins_conjunction, adds, reads, call, called, Reached};
 ghost use Rattle.encounter.specs.Enclosure.{Demands};
 ghost use Rattle.encounter.specs.Claims.{Claims};
 
@@ -13,15 +13,16 @@ pub mod lent;
 mod opening;
 mod tests;
 
-use crate::calls::answers::{count_to, refused_on};
+use crate::calls::answers::called;
 use crate::calls::ends::{classify, lower_end, may_read, upper_end};
 use crate::calls::opening::opened;
-use crate::calls::tests::{passes_test_7, passes_test_11, test_inputs, test_object};
-use crate::state::{Answer, Called, Letters, Session, Side, Terms};
+use crate::calls::tests::{passes_test_7, passes_test_11, test_inputs};
+use crate::state::{Answer, Called, Letters, Reading, Session, Side, Terms};
 use crate::steps::counts::{Counts, counts_after};
 use crate::steps::letters::{bound, letters};
 use crate::steps::losses::letter_numbers;
 use crate::steps::progress::{Progress, advance};
+use exact::refusals::Refusal;
 use exact::{Conjunction, Encounter, LARGEST_ORDER, Scaled};
 
 impl Session {
@@ -70,49 +71,52 @@ impl Session {
     }
 }
 
-// Begins an encounter: refused as 3 to 7 or 11, else at order N = 1, with object and time 0.
+// The session of an encounter at order 1, with object and time 0: refused as 3 to 7 or 11.
+fn begun(E: Encounter) -> Result<Session, Refusal>
+    ensures { (s : Session) → called s result ≡ call (begins E) s }
+{
+    test_inputs(E)?;
+    let above = letters(true, E);
+    if !passes_test_7(above.t.number) {
+        return Err(Refusal::LargeT);
+    }
+    let below = letters(false, E);
+    let M = bound(letter_numbers(above));
+    if !passes_test_11(M) {
+        return Err(Refusal::NeverReadable);
+    }
+    Ok(opened(E, below, above, M))
+}
+
+// The same with its object number and its time: refused as 3 to 7 or 11, then as 9.
+fn begun_conjunction(C: Conjunction) -> Result<Session, Refusal>
+    ensures { (s : Session) → called s result ≡ call (begins_conjunction C) s }
+{
+    let session = begun(C.encounter)?;
+    if C.object == 0 {
+        return Err(Refusal::NoObject);
+    }
+    Ok(Session {
+        object: C.object,
+        time: C.time,
+        ..session
+    })
+}
+
+// Begins an encounter, without object and time.
 pub fn begin(s: Session, E: Encounter) -> Called
     requires { Reached s }
     ensures { (result ≡ call (begins E) s) × Reached result.session }
 {
-    let refusal = test_inputs(E);
-    if 0 < refusal {
-        return refused_on(refusal, s);
-    }
-    let above = letters(true, E);
-    if passes_test_7(above.t.number) {
-        let below = letters(false, E);
-        let M = bound(letter_numbers(above));
-        if passes_test_11(M) {
-            let session = opened(E, below, above, M);
-            Called {
-                answer: count_to(1),
-                session,
-            }
-        } else {
-            refused_on(11, s)
-        }
-    } else {
-        refused_on(7, s)
-    }
+    called(s, begun(E))
 }
 
-// Begins an encounter with its object number and its time: refused as 3 to 7 or 11, then as 9.
+// Begins an encounter with its object number and its time.
 pub fn begin_conjunction(s: Session, C: Conjunction) -> Called
     requires { Reached s }
     ensures { (result ≡ call (begins_conjunction C) s) × Reached result.session }
 {
-    let E = C.encounter;
-    let begun = begin(s, E);
-    let answer = begun.answer;
-    let refusal = test_object(answer.refusal, C.object);
-    if 0 < refusal {
-        return refused_on(refusal, s);
-    }
-    let mut session = begun.session;
-    session.object = C.object;
-    session.time = C.time;
-    Called { answer, session }
+    called(s, begun_conjunction(C))
 }
 
 // A side with the terms of a later order.
@@ -155,54 +159,63 @@ fn further(s: Session, count: u32) -> Session
     at_order(s, s.N + count, p, k)
 }
 
-// Adds terms: refused as 12, 21 or 22.
+// The session with `count` terms more: refused as 12, 21 or 22.
 #[tactic(auto, using(crate::proofs::calls::Answering::add_refused_12, crate::proofs::calls::Answering::add_refused_21, crate::proofs::calls::Answering::add_refused_22))]
+fn added(s: Session, count: u16) -> Result<Session, Refusal>
+    requires { Reached s }
+    ensures { called s result ≡ call (adds count) s }
+{
+    if count == 0 {
+        return Err(Refusal::EmptyAdd);
+    }
+    if s.N == 0 {
+        return Err(Refusal::NotBegun);
+    }
+    let n = s.N + u32::from(count);
+    if LARGEST_ORDER < n {
+        return Err(Refusal::AboveLargestOrder);
+    }
+    Ok(further(s, u32::from(count)))
+}
+
+// Adds terms.
 pub fn add(s: Session, count: u16) -> Called
     requires { Reached s }
     ensures { (result ≡ call (adds count) s) × Reached result.session }
 {
-    let N = s.N;
-    if count == 0 {
-        return refused_on(12, s);
-    }
-    if N == 0 {
-        return refused_on(21, s);
-    }
-    let n = N + (count as u32);
-    if LARGEST_ORDER < n {
-        return refused_on(22, s);
-    }
-    let session = further(s, count as u32);
-    Called {
-        answer: count_to(n),
-        session,
-    }
+    called(s, added(s, count))
 }
 
 // The bracket at the session's order: refused as 21 or 23.
+pub fn reading(s: Session) -> Result<Reading, Refusal>
+    requires { Reached s }
+    ensures { answer_of result ≡ (call reads s).answer }
+{
+    if s.N == 0 {
+        return Err(Refusal::NotBegun);
+    }
+    if !may_read(s) {
+        return Err(Refusal::TailTooLarge);
+    }
+    let lower = lower_end(s);
+    let upper = upper_end(s);
+    Ok(Reading {
+        N: s.N,
+        lower,
+        upper,
+        class: classify(lower, upper),
+        object: s.object,
+        time: s.time,
+        exact: s.exact,
+    })
+}
+
+// The same as an answer, with the refusal's number.
+#[tactic(auto, using(crate::proofs::calls::Invariant::demands))]
 pub fn read(s: Session) -> Answer
     requires { Reached s }
     ensures value { result ≡ (call reads s).answer }
     ensures demands { Demands }
 {
-    if s.N == 0 {
-        return Answer::refused(21);
-    }
-    if may_read(s) {
-        let lower = lower_end(s);
-        let upper = upper_end(s);
-        let class = classify(lower, upper);
-        Answer {
-            refusal: 0,
-            N: s.N,
-            lower,
-            upper,
-            class,
-            object: s.object,
-            time: s.time,
-            exact: s.exact,
-        }
-    } else {
-        Answer::refused(23)
-    }
+    Answer::from(reading(s))
 }

@@ -1,7 +1,8 @@
 // The session: all that is kept of one encounter between calls, and what a call answers.
 ghost use Rattle.std.specs.Prelude.{◌≡◌};
-ghost use Rattle.encounter.specs.Session.{refused};
+ghost use Rattle.encounter.specs.Session.{refused, answer_of};
 
+use exact::refusals::Refusal;
 use exact::{Encounter, Scaled};
 
 // A side's letters.
@@ -61,6 +62,18 @@ pub enum Class {
     Open,
 }
 
+// What an accepted read answers: the order, both ends and the class, the object number, the time and how many of the first terms are exact.
+#[derive(Clone, Copy)]
+pub struct Reading {
+    pub N: u32,
+    pub lower: Scaled,
+    pub upper: Scaled,
+    pub class: Class,
+    pub object: u32,
+    pub time: u32,
+    pub exact: u32,
+}
+
 // The refusal's number, or 0; then the order, both ends and the class, and of an accepted read the object number, the time and how many of the first terms are exact.
 #[derive(Clone, Copy)]
 pub struct Answer {
@@ -88,6 +101,26 @@ impl Answer {
             object: 0,
             time: 0,
             exact: 0,
+        }
+    }
+}
+
+impl From<Result<Reading, Refusal>> for Answer {
+    ghost from_gives = { λ r a. a ≡ answer_of r };
+
+    fn from(r: Result<Reading, Refusal>) -> Answer {
+        match r {
+            Ok(reading) => Answer {
+                refusal: 0,
+                N: reading.N,
+                lower: reading.lower,
+                upper: reading.upper,
+                class: reading.class,
+                object: reading.object,
+                time: reading.time,
+                exact: reading.exact,
+            },
+            Err(refusal) => Answer::refused(u32::from(refusal)),
         }
     }
 }

@@ -1,5 +1,5 @@
 -- The refusals and the kinds of a record as types of code, each with the number that it has in the tables of document 01 and in document 02.
-use Rattle.std.specs.Prelude.{◌≡◌, false, ℕ, Result, MatchResult}
+use Rattle.std.specs.Prelude.{◌≡◌, false, ℕ, Result, Ok, Err, MatchResult}
 use Rattle.exact.specs.declared.refusals.Refusal.{Refusal}
 use Rattle.exact.specs.declared.refusals.Refusal.TheVariants.{NoKind, ShortBody, Radius, Sigma, LargerSigma, Miss, LargeT, LongScript, NoObject, Quotient, NeverReadable, EmptyAdd, NoDay, NotBegun, AboveLargestOrder, TailTooLarge, FullDay}
 use Rattle.exact.specs.declared.kinds.Kind.{Kind}
@@ -24,6 +24,11 @@ number_of NotBegun = 21
 number_of AboveLargestOrder = 22
 number_of TailTooLarge = 23
 number_of FullDay = 24
+
+-- the number of a refusal, or 0 where there is none
+abbrev pub refusal_in : {A : Type 0} → Result A Refusal → ℕ
+refusal_in (Ok x) = 0
+refusal_in (Err e) = number_of e
 
 -- the byte of a kind
 abbrev pub kind_byte : Kind → ℕ

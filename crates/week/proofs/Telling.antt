@@ -21,7 +21,7 @@ use Rattle.encounter.specs.Calls.{history_of, reads, call, Reached}
 use Rattle.encounter.specs.Enclosure.{Every}
 use Rattle.encounter.proofs.calls.AcceptedReads.{ReadOf, accepted_read}
 use Rattle.encounter.proofs.calls.Invariant.{history_is, whole_told, begun, encloses}
-use Rattle.encounter.proofs.calls.Reading.{lower_end_fine, upper_end_fine}
+use Rattle.encounter.proofs.calls.ReadNumbers.{lower_end_fine, upper_end_fine}
 use Rattle.week.specs.declared.Bracket.{Bracket}
 use Rattle.week.specs.Week.{Week, empty_week, day_of, next_place, ends_of, entered, enter}
 use Rattle.week.specs.Told.{Read, Told, nothing_told, reads_of, tell, place_of, day_with, week_with, Came, from_empty, after}

@@ -3,67 +3,32 @@ use mathlib.Core.Path.{◌≡◌, refl, sym, ◌∙◌, subst, ap}
 use mathlib.Core.Bool.{Bool, true, false, cond}
 use Prim.Native.Nat.{ℕ, ◌+◌, ◌≤◌, ◌<◌}
 use native.Mathlib.Omega.{arith}
+use borrow.Author.Rules.{rules}
 use borrow.Author.Tests.{lt-ltb, le-ltb, eq-eqb, ne_eqb, eqb-true, eqb-false}
-use lib.Dec.{ltb, eqb}
+use lib.Dec.{eqb}
+use Rattle.std.specs.Prelude.{Err}
 use Rattle.exact.specs.declared.Encounter.{Encounter}
+use Rattle.exact.specs.declared.refusals.Refusal.{Refusal}
+use Rattle.exact.specs.Kinds.{number_of}
+use Rattle.exact.specs.declared.refusals.Refusal.TheVariants.{EmptyAdd, NotBegun, AboveLargestOrder}
 use Rattle.exact.specs.declared.Scaled.{Scaled}
 use Rattle.exact.specs.Losses.{exact_terms}
-use Rattle.exact.specs.Numbers.{largest_length, largest_order}
+use Rattle.exact.specs.Numbers.{largest_order}
 use Rattle.exact.specs.Private.Ranges.{tests_3_to_6, Bounds}
 use Rattle.exact.specs.Steps.{lower_end, upper_end}
 use Rattle.exact.specs.Records.{Request, begin, begin_conjunction, add, read, bad}
-use Rattle.exact.specs.Refusals.{History, outside, miss_outside, refuses_3, refuses_4, refuses_5, refuses_6, refuses_7, refuses_11, begin_refusal, Accepted, no_encounter, encounter_at, refuses_12, test_21, refuses_22, refuses_23, refusal}
+use Rattle.exact.specs.Refusals.{History, refuses_3, refuses_4, refuses_5, refuses_6, refuses_7, refuses_11, begin_refusal, Accepted, no_encounter, encounter_at, refuses_12, test_21, refuses_22, refuses_23, refusal}
 use Rattle.exact.proofs.Accepted.{bounds}
 use Rattle.encounter.specs.declared.state.Session.{Session}
 use Rattle.encounter.specs.declared.state.Answer.{Answer}
 use Rattle.encounter.specs.declared.state.Class.{Class}
 use Rattle.encounter.specs.declared.state.Called.{Called}
 use Rattle.encounter.specs.Session.{state, no_object, conjunction_of, refused, counted, bracket, class_of}
-use Rattle.encounter.specs.Calls.{history_after, follow, session_of, history_of, accepted_answer, refusing, outcome, Call, begins, adds, reads, call, Reached, after}
+use Rattle.encounter.specs.Calls.{history_after, follow, session_of, history_of, accepted_answer, refusing, called, outcome, Call, begins, adds, reads, call, Reached, after}
 
--- ---- the tests of a begin
-
-pub outside_zero : (n : ℕ) → n ≡ 0 → true ≡ outside n
-unfolding outside
-outside_zero n z = rw (eq-eqb n 0 z)
-
-pub outside_some : (n : ℕ) → (n ≡ 0 → ⊥) → ltb largest_length n ≡ outside n
-unfolding outside
-outside_some n z = rw (ne_eqb n 0 z)
-
--- tests 3 to 6, up to the first that refuses
-module _ (E : Encounter) (rest : ℕ) where
-  pub test_3 : outside E.R ≡ true → 3 ≡ tests_3_to_6 E rest
-  unfolding tests_3_to_6 refuses_3 refuses_4 refuses_5 refuses_6
-  test_3 a = rw a
-
-  module _ (a : outside E.R ≡ false) where
-    pub test_4_sx : outside E.sx ≡ true → 4 ≡ tests_3_to_6 E rest
-    unfolding tests_3_to_6 refuses_3 refuses_4 refuses_5 refuses_6
-    test_4_sx b = rw (a, b)
-
-    module _ (b : outside E.sx ≡ false) where
-      pub test_4_sy : outside E.sy ≡ true → 4 ≡ tests_3_to_6 E rest
-      unfolding tests_3_to_6 refuses_3 refuses_4 refuses_5 refuses_6
-      test_4_sy c = rw (a, b, c)
-
-      module _ (c : outside E.sy ≡ false) where
-        pub test_5 : E.sx < E.sy → 5 ≡ tests_3_to_6 E rest
-        unfolding tests_3_to_6 refuses_3 refuses_4 refuses_5 refuses_6
-        test_5 d = rw (a, b, c, lt-ltb _ _ d)
-
-        module _ (d : E.sy ≤ E.sx) where
-          pub test_6_xm : miss_outside E.xm ≡ true → 6 ≡ tests_3_to_6 E rest
-          unfolding tests_3_to_6 refuses_3 refuses_4 refuses_5 refuses_6
-          test_6_xm e = rw (a, b, c, le-ltb _ _ d, e)
-
-          pub test_6_ym : miss_outside E.xm ≡ false → miss_outside E.ym ≡ true → 6 ≡ tests_3_to_6 E rest
-          unfolding tests_3_to_6 refuses_3 refuses_4 refuses_5 refuses_6
-          test_6_ym e f = rw (a, b, c, le-ltb _ _ d, e, f)
-
-          pub tests_pass : miss_outside E.xm ≡ false → miss_outside E.ym ≡ false → rest ≡ tests_3_to_6 E rest
-          unfolding tests_3_to_6 refuses_3 refuses_4 refuses_5 refuses_6
-          tests_pass e f = rw (a, b, c, le-ltb _ _ d, e, f)
+-- the number of a refusal is not 0
+pub positive : (e : Refusal) → 0 < number_of e
+positive e = search rules
 
 -- ---- a request by its refusal
 
@@ -210,24 +175,16 @@ module _ (s : Session) (count : ℕ) where
       add_taken l f g =
           taken_is s (add count) (later (history_of s) 0 (unfold refuses_22 in rw (history_some s some, le-ltb largest_order (s.N + count) l))) (rw (history_some s some) f) (rw (history_some s some) g)
 
--- refused, or accepted: what the call by value promises of its result r
-module _ (s : Session) (count : ℕ) (r : Called) (h : Reached s) where
-  promised : r ≡ call (adds count) s → (r ≡ call (adds count) s) × Reached r.session
-  promised e = (e, call_reached (adds count) h e)
+-- refused, as code says it
+module _ (s : Session) (count : ℕ) where
+  pub add_refused_12 : count ≡ 0 → called s (Err EmptyAdd) ≡ call (adds count) s
+  add_refused_12 z = add_12 s count z refl
 
-  pub add_refused_12 : r ≡ record { answer = refused 12; session = s } → count ≡ 0 → (r ≡ call (adds count) s) × Reached r.session
-  add_refused_12 e z = promised (e ∙ add_12 s count z refl)
+  pub add_refused_21 : (count ≡ 0 → ⊥) → s.N ≡ 0 → called s (Err NotBegun) ≡ call (adds count) s
+  add_refused_21 more z = add_21 s count more z refl
 
-  pub add_refused_21 : r ≡ record { answer = refused 21; session = s } → (count ≡ 0 → ⊥) → s.N ≡ 0 → (r ≡ call (adds count) s) × Reached r.session
-  add_refused_21 e more z = promised (e ∙ add_21 s count more z refl)
-
-  pub add_refused_22 :
-      r ≡ record { answer = refused 22; session = s } →
-      (count ≡ 0 → ⊥) →
-      (s.N ≡ 0 → ⊥) →
-      largest_order < s.N + count →
-      (r ≡ call (adds count) s) × Reached r.session
-  add_refused_22 e more some l = promised (e ∙ add_22 s count more some l refl)
+  pub add_refused_22 : (count ≡ 0 → ⊥) → (s.N ≡ 0 → ⊥) → largest_order < s.N + count → called s (Err AboveLargestOrder) ≡ call (adds count) s
+  add_refused_22 more some l = add_22 s count more some l refl
 
 -- ---- read
 

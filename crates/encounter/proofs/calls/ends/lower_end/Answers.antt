@@ -3,7 +3,7 @@ use mathlib.Core.Bool.{true, false}
 use Rattle.exact.proofs.Ranges.{widen}
 use Rattle.encounter.proofs.arithmetic.Fitting.{sum_of, double_of}
 use Rattle.encounter.proofs.arithmetic.Results.{number_of}
-use Rattle.encounter.proofs.calls.Reading.{r256_fine, upper_exponential_fine, lower_sum_fine, divisor_normal, lower_end_is}
+use Rattle.encounter.proofs.calls.ReadNumbers.{r256_fine, upper_exponential_fine, lower_sum_fine, divisor_normal, lower_end_is}
 use Rattle.encounter.proofs.calls.ends.lower_end.Goals as goal
 
 pub doubled-requires : goal.doubled-requires

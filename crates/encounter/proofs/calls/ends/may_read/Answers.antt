@@ -1,5 +1,5 @@
 use Rattle.encounter.proofs.steps.Progressing.{M_fine}
-use Rattle.encounter.proofs.calls.Reading.{may_read_is}
+use Rattle.encounter.proofs.calls.ReadNumbers.{may_read_is}
 use Rattle.encounter.proofs.calls.ends.may_read.Goals as goal
 
 pub passes_test_23-requires : goal.passes_test_23-requires

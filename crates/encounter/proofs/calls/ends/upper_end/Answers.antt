@@ -3,7 +3,7 @@ use mathlib.Core.Bool.{true}
 use Rattle.exact.proofs.Ranges.{widen}
 use Rattle.encounter.proofs.arithmetic.Fitting.{sum_of, double_of}
 use Rattle.encounter.proofs.arithmetic.Results.{number_of}
-use Rattle.encounter.proofs.calls.Reading.{d_fine, lower_exponential_fine, upper_sum_fine, lower_exponential_normal, upper_end_is}
+use Rattle.encounter.proofs.calls.ReadNumbers.{d_fine, lower_exponential_fine, upper_sum_fine, lower_exponential_normal, upper_end_is}
 use Rattle.encounter.proofs.calls.ends.upper_end.Goals as goal
 
 pub doubled-requires : goal.doubled-requires
