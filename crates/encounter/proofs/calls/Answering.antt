@@ -6,7 +6,7 @@ use native.Mathlib.Omega.{arith}
 use borrow.Author.Rules.{rules}
 use borrow.Author.Tests.{lt-ltb, le-ltb, eq-eqb, ne_eqb, eqb-true, eqb-false}
 use lib.Dec.{eqb}
-use Rattle.std.specs.Prelude.{Err}
+use Rattle.std.specs.Prelude.{Result, Err}
 use Rattle.exact.specs.declared.Encounter.{Encounter}
 use Rattle.exact.specs.declared.refusals.Refusal.{Refusal}
 use Rattle.exact.specs.Kinds.{number_of}
@@ -85,6 +85,18 @@ history_some s some = rw (ne_eqb s.N 0 some)
 -- each call keeps the premise
 pub call_reached : {s : Session} (c : Call) {r : Called} → Reached s → r ≡ call c s → Reached r.session
 call_reached c h e = subst (λ (r : Called). Reached r.session) (sym e) (after h c)
+
+-- what code makes of the session that a call leaves, or of its refusal, keeps the premise
+pub call_kept : (c : Call) {s : Session} {r : Called} (x : Result Session Refusal) → Reached s → r ≡ called s x → called s x ≡ call c s → (r ≡ call c s) × Reached r.session
+call_kept c x h f e = (f ∙ e, call_reached c h (f ∙ e))
+
+pub call_kept_of_any :
+    (c : Call) {s : Session} {r : Called} (x : Result Session Refusal) →
+    Reached s →
+    r ≡ called s x →
+    ((t : Session) → called t x ≡ call c t) →
+    (r ≡ call c s) × Reached r.session
+call_kept_of_any c {s} x h f e = call_kept c x h f (e s)
 
 -- ---- begin
 

@@ -1,9 +1,7 @@
-use mathlib.Core.Path.{◌∙◌}
+use borrow.Author.Rules.{rules}
 use Rattle.encounter.specs.Calls.{begins}
-use Rattle.encounter.proofs.calls.Answering.{call_reached}
+use Rattle.encounter.proofs.calls.Answering.{call_kept_of_any}
 use Rattle.encounter.proofs.calls.begin.Goals as goal
 
 pub returns : goal.returns
-returns c =
-    let e = c.called.ensures ∙ c.begun.ensures c.args.s in
-    (e, call_reached (begins c.args.E) c.requires e)
+returns c = search (rules, call_kept_of_any (begins c.args.E))

@@ -1,9 +1,7 @@
-use mathlib.Core.Path.{◌∙◌}
+use borrow.Author.Rules.{rules}
 use Rattle.encounter.specs.Calls.{begins_conjunction}
-use Rattle.encounter.proofs.calls.Answering.{call_reached}
+use Rattle.encounter.proofs.calls.Answering.{call_kept_of_any}
 use Rattle.encounter.proofs.calls.begin_conjunction.Goals as goal
 
 pub returns : goal.returns
-returns c =
-    let e = c.called.ensures ∙ c.begun_conjunction.ensures c.args.s in
-    (e, call_reached (begins_conjunction c.args.C) c.requires e)
+returns c = search (rules, call_kept_of_any (begins_conjunction c.args.C))
