@@ -1,4 +1,3 @@
-pub mod Entries
 pub mod Wholes
 pub mod Searching
 pub mod Cases

@@ -119,34 +119,25 @@ pub fn begin_conjunction(s: Session, C: Conjunction) -> Called
     called(s, begun_conjunction(C))
 }
 
-// A side with the terms of a later order.
-fn later_side(s: Side, terms: Terms) -> Side
-    ensures { result ≡ record { letters = s.letters; exponential = s.exponential; terms = terms } }
-{
-    let letters = s.letters;
-    let exponential = s.exponential;
-    Side {
-        letters,
-        exponential,
-        terms,
-    }
-}
-
 // A session at another order.
 fn at_order(s: Session, n: u32, p: Progress, k: Counts) -> Session
     ensures { result ≡ at_order s n p k }
 {
-    let lower = later_side(s.lower, p.lower);
-    let upper = later_side(s.upper, p.upper);
-    let d = p.d;
-    let mut session = s;
-    session.N = n;
-    session.lower = lower;
-    session.upper = upper;
-    session.d = d;
-    session.exact = k.exact;
-    session.lossless = k.lossless;
-    session
+    Session {
+        N: n,
+        lower: Side {
+            terms: p.lower,
+            ..s.lower
+        },
+        upper: Side {
+            terms: p.upper,
+            ..s.upper
+        },
+        d: p.d,
+        exact: k.exact,
+        lossless: k.lossless,
+        ..s
+    }
 }
 
 // A session `count` terms on.

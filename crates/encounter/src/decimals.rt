@@ -1,5 +1,5 @@
 // A scaled number as four significant digits and a power of ten (request #103 of document 02).
-ghost use Rattle.std.specs.Prelude.{◌≡◌, false, pred, ◌+◌, ◌*◌, ◌/◌, ◌^◌, ◌≤◌, ◌<◌};
+ghost use Rattle.std.specs.Prelude.{◌≡◌, false, MatchOption, pred, ◌+◌, ◌*◌, ◌/◌, ◌^◌, ◌≤◌, ◌<◌};
 ghost use Rattle.exact.specs.declared.Scaled.{Scaled as Number};
 ghost use Rattle.exact.specs.Integer.{pos_part};
 ghost use Rattle.exact.specs.Fraction.{◌≈◌};
@@ -12,23 +12,24 @@ mod tens;
 
 use crate::arithmetic::exponent::{gap, lowered};
 use crate::arithmetic::wide::{Wide, product, widen};
-use crate::decimals::tens::power_of_ten;
+use crate::decimals::tens::{POWERS, power_of_ten};
 use exact::{Decimal, Scaled};
 
-// How many entries the table has.
-const POWERS: usize = 47;
+const ZERO: Decimal = Decimal {
+    digits: 0,
+    power: 0,
+};
 
 // x with a mantissa of 32 bits, for an x that is not zero.
 fn normal(x: Scaled) -> Wide
     requires { 0 < x.m }
     ensures { (Normal 32 (narrow result)) × (InRange 32 (2 ^ 32) (narrow result)) × (value (narrow result) ≈ value x) }
 {
-    let n = x.m;
-    let a = x.e;
-    let z = u32::leading_zeros(n);
-    let m = (n << z) as u64;
-    let e = lowered(a as i64, z as u64);
-    Wide { m, e }
+    let z = x.m.leading_zeros();
+    Wide {
+        m: u64::from(x.m << z),
+        e: lowered(i64::from(x.e), u64::from(z)),
+    }
 }
 
 // The whole part of p, for p below 2^32.
@@ -36,13 +37,8 @@ fn whole_part(p: Wide) -> u64
     requires { (InRange 32 (2 ^ 28) (narrow p)) × (pos_part p.e ≡ 0) }
     ensures { result ≡ floor (value (narrow p)) }
 {
-    let m = p.m;
-    let e = p.e;
-    let n = gap(0, e);
-    if 63 < n {
-        return 0;
-    }
-    m >> n
+    let n = gap(0, p.e);
+    if n < 64 { p.m >> n } else { 0 }
 }
 
 // The whole part of x times the table's 10^k, where the power before does not reach 1,000.
@@ -62,44 +58,34 @@ fn first_power(s: u64) -> usize
     (3 + (s * 1233 + 4095) / 4096) as usize
 }
 
-// The least power, or 47, and the whole part of the product that reaches 1,000 there.
+// The least power, and the whole part of the product that reaches 1,000 there.
 #[derive(Clone, Copy)]
 struct Reaching {
     k: usize,
     whole: u64,
 }
 
-// The least power of a number from 2^-(s+1) to below 2^-s.
-fn least_power_of(up: bool, x: Wide, s: u64) -> Reaching
+// The least power of a number from 2^-(s+1) to below 2^-s, where the table has one.
+fn least_power_of(up: bool, x: Wide, s: u64) -> Option<Reaching>
     requires { InBinade s (narrow x) }
-    ensures { (result.k ≡ least_power up (narrow x)) × (result.k < table_length → result.whole ≡ floor (value (times_power up (narrow x) result.k))) }
+    ensures { MatchOption result (least_power up (narrow x) ≡ table_length) (λ r. (r.k < table_length) × (r.k ≡ least_power up (narrow x)) × (r.whole ≡ floor (value (times_power up (narrow x) r.k)))) }
 {
-    let mut k = first_power(s);
-    while k < POWERS {
+    for k in first_power(s)..POWERS {
         let whole = whole_at(up, x, k);
         if 1000 <= whole {
-            return Reaching { k, whole };
+            return Some(Reaching { k, whole });
         }
-        k += 1;
     }
-    Reaching {
-        k: POWERS,
-        whole: 0,
-    }
+    None
 }
 
 // The digits of a whole part.
+#[tactic(auto, unfolding(exact::specs::Decimals::digits_of))]
 fn digits(up: bool, whole: u64) -> u64
     requires { whole ≤ 10000 }
     ensures { result ≡ digits_of up whole }
 {
-    if up {
-        return whole + 1;
-    }
-    if whole == 10000 {
-        return 9999;
-    }
-    whole
+    if up { whole + 1 } else { whole.min(9999) }
 }
 
 // The digits n at the power k.
@@ -108,14 +94,15 @@ fn decimal_at(k: usize, n: u64) -> Decimal
     ensures { result ≡ at_power k n }
 {
     if n < 10000 {
-        return Decimal {
+        Decimal {
             digits: n as u32,
             power: (k - 3) as u32,
-        };
-    }
-    Decimal {
-        digits: (n - 9000) as u32,
-        power: (k - 4) as u32,
+        }
+    } else {
+        Decimal {
+            digits: (n - 9000) as u32,
+            power: (k - 4) as u32,
+        }
     }
 }
 
@@ -124,14 +111,12 @@ fn below_the_table(up: bool) -> Decimal
     ensures { (x : Number) → 0 < x.m → result ≡ too_small up x }
 {
     if up {
-        return Decimal {
+        Decimal {
             digits: 1000,
             power: 43,
-        };
-    }
-    Decimal {
-        digits: 0,
-        power: 0,
+        }
+    } else {
+        ZERO
     }
 }
 
@@ -140,13 +125,10 @@ fn below_one(up: bool, x: Wide, s: u64) -> Decimal
     requires { InBinade s (narrow x) }
     ensures { result ≡ decimal_of up (narrow x) }
 {
-    let r = least_power_of(up, x, s);
-    let k = r.k;
-    let whole = r.whole;
-    if k < POWERS {
-        return decimal_at(k, digits(up, whole));
+    match least_power_of(up, x, s) {
+        Some(r) => decimal_at(r.k, digits(up, r.whole)),
+        None => below_the_table(up),
     }
-    below_the_table(up)
 }
 
 // x in decimal, as a lower end or, where up is true, as an upper one: four significant digits and a power of ten. It takes any m and e.
@@ -154,10 +136,7 @@ pub fn to_decimal(up: bool, x: Scaled) -> Decimal
     ensures { (result ≡ decimal_of up x) × Printed up x result × (Found up x → Near x result) }
 {
     if x.m == 0 {
-        return Decimal {
-            digits: 0,
-            power: 0,
-        };
+        return ZERO;
     }
     // y is x, with n bits below the point: it is 1 or more where n is at most 31, and below 2^-143, out of the table's reach, where n is above 174
     let y = normal(x);

@@ -31,12 +31,12 @@ module _ (up : Bool) (x : Scaled) (b : value x ≺ whole 1) where
     pub none_is : {r : Decimal} → 0 < x.m → table_length ≤ k → ((y : Scaled) → 0 < y.m → r ≡ too_small up y) → r ≡ decimal_of up x
     none_is p l t = t x p ∙ sym (is_small up x is_below (rw e at l))
 
-    module _ {w : ℕ} (l : k < table_length) (h : k < table_length → w ≡ floor (value (times_power up x k))) where
+    module _ {w : ℕ} (l : k < table_length) (h : w ≡ floor (value (times_power up x k))) where
       found : least_power up x < table_length
       found = rw e at l
 
       whole_is : w ≡ floor (value (times_power up x (least_power up x)))
-      whole_is = rw e at (h l)
+      whole_is = rw e at h
 
       pub whole_fine : w ≤ 10000
       whole_fine = rw whole_is (whole_most up x (≼_of_≺ b) found)

@@ -2,15 +2,13 @@
 use mathlib.Core.Path.{◌≡◌, refl}
 use mathlib.Core.Bool.{Bool, true, false, not, ◌&&◌}
 use Prim.Native.Nat.{ℕ, ◌^◌, ◌≤◌, ◌<◌, zero-le}
-use lib.Dec.{ltb, leb, eqb}
+use lib.Dec.{ltb, leb}
 use lib.IntN.{ℤ, pos, negsuc, nat_abs}
-use borrow.Author.Tests.{eq-eqb, ne_eqb, le-ltb, lt-ltb, ltb-false, not-true}
+use borrow.Author.Tests.{ne_eqb, le-ltb, lt-ltb, ltb-false, not-true}
 use Rattle.exact.specs.declared.Scaled.{Scaled}
-use Rattle.exact.specs.declared.Traced.{Traced}
-use Rattle.exact.specs.Arithmetic.{rounding}
-use Rattle.exact.specs.Fraction.{◌⊕◌, at_most}
+use Rattle.exact.specs.Fraction.{◌⊕◌}
 use Rattle.exact.specs.Integer.{pos_part, neg_part}
-use Rattle.exact.specs.Scaled.{nought, value}
+use Rattle.exact.specs.Scaled.{value}
 use Rattle.exact.specs.Refusals.{scaled_form}
 use Rattle.exact.specs.Private.Ranges.{InRange}
 use Rattle.exact.specs.Private.Round.{round}
@@ -21,14 +19,6 @@ use Rattle.encounter.specs.Sums.{in_limits, sum_in_limits, greater, greater_in_l
 -- ---- the test by cases
 
 module _ (x : Scaled) where
-  pub too_far : ltb (2 ^ 28) (nat_abs x.e) ≡ true → false ≡ in_limits x
-  unfolding in_limits
-  too_far h = rw h
-
-  pub of_zero : ltb (2 ^ 28) (nat_abs x.e) ≡ false → x.m ≡ 0 → eqb (nat_abs x.e) 0 ≡ in_limits x
-  unfolding in_limits scaled_form
-  of_zero h z = rw (h, eq-eqb x.m 0 z)
-
   pub of_some : ltb (2 ^ 28) (nat_abs x.e) ≡ false → (x.m ≡ 0 → ⊥) → x.m < 2 ^ 32 → leb (2 ^ 31) x.m ≡ in_limits x
   unfolding in_limits scaled_form
   of_some h n l = rw (h, ne_eqb x.m 0 n, lt-ltb x.m (2 ^ 32) l) (go (leb (2 ^ 31) x.m))
@@ -61,38 +51,6 @@ range_of x h =
 pub limits_of : {x : Scaled} → InRange 32 (2 ^ 28) x → in_limits x ≡ true
 unfolding in_limits
 limits_of {x} h = rw (le-ltb (2 ^ 28) (nat_abs x.e) (within (2 ^ 28) x.e h.above h.below), form_of x h.is_scaled)
-
-pub ranges_of : (x y : Scaled) → (in_limits x && in_limits y) ≡ true → (InRange 32 (2 ^ 28) x) × (InRange 32 (2 ^ 28) y)
-ranges_of x y h = let (a, b) = both_true (in_limits x) (in_limits y) h in (range_of x a, range_of y b)
-
--- ---- two numbers, as code takes the cases
-
-module _ (x y : Scaled) where
-  pub second : in_limits x ≡ true → in_limits y ≡ (in_limits x && in_limits y)
-  second h = rw h
-
-  pub neither : in_limits x ≡ false → false ≡ (in_limits x && in_limits y)
-  neither h = rw h
-
-  pub summed : (up : Bool) {r : Traced} → (in_limits x && in_limits y) ≡ true → r ≡ rounding up 32 (value x ⊕ value y) false → r.number ≡ sum_in_limits up x y
-  unfolding sum_in_limits rounding
-  summed up h e = rw (h, e)
-
-  pub no_sum : (up : Bool) → (in_limits x && in_limits y) ≡ false → nought ≡ sum_in_limits up x y
-  unfolding sum_in_limits
-  no_sum up h = rw h
-
-  pub second_greater : (in_limits x && in_limits y) ≡ true → at_most (value x) (value y) ≡ true → y ≡ greater_in_limits x y
-  unfolding greater_in_limits greater
-  second_greater h a = rw (h, a)
-
-  pub first_greater : (in_limits x && in_limits y) ≡ true → at_most (value x) (value y) ≡ false → x ≡ greater_in_limits x y
-  unfolding greater_in_limits greater
-  first_greater h a = rw (h, a)
-
-  pub no_greater : (in_limits x && in_limits y) ≡ false → nought ≡ greater_in_limits x y
-  unfolding greater_in_limits
-  no_greater h = rw h
 
 -- ---- numbers of the private arithmetic are in the limits
 

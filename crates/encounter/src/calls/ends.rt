@@ -15,26 +15,16 @@ pub fn lower_end(s: Session) -> Scaled
     requires { Begun s }
     ensures { result ≡ lower_end s.encounter s.N }
 {
-    let below = s.lower;
-    let above = s.upper;
-    let terms = below.terms;
-    let r256 = s.r256;
-    let under = sum(true, above.exponential, doubled(r256));
-    let end = quotient(false, terms.sum, under.number);
-    end.number
+    let under = sum(true, s.upper.exponential, doubled(s.r256));
+    quotient(false, s.lower.terms.sum, under.number).number
 }
 
 pub fn upper_end(s: Session) -> Scaled
     requires { Begun s }
     ensures { result ≡ upper_end s.encounter s.N }
 {
-    let below = s.lower;
-    let above = s.upper;
-    let terms = above.terms;
-    let d = s.d;
-    let over = sum(true, terms.sum, doubled(d));
-    let end = quotient(true, over.number, below.exponential);
-    end.number
+    let over = sum(true, s.upper.terms.sum, doubled(s.d));
+    quotient(true, over.number, s.lower.exponential).number
 }
 
 // U(1/10,000): a scaled number × 10,000 is at least 1 just where it is at least this.
@@ -50,9 +40,8 @@ pub fn classify(lower: Scaled, upper: Scaled) -> Class
     ensures { result ≡ class_of lower upper }
 {
     if at_most(THRESHOLD, lower) {
-        return Class::Alert;
-    }
-    if at_most(THRESHOLD, upper) {
+        Class::Alert
+    } else if at_most(THRESHOLD, upper) {
         Class::Open
     } else {
         Class::Clear

@@ -11,8 +11,7 @@ impl Session {
         requires { Reached self.old }
         ensures { (result ≡ (call (begins E) self.old).answer) × (self.new ≡ (call (begins E) self.old).session) × Reached self.new }
     {
-        let before = *self;
-        let r = calls::begin(before, E);
+        let r = calls::begin(*self, E);
         *self = r.session;
         r.answer
     }
@@ -21,8 +20,7 @@ impl Session {
         requires { Reached self.old }
         ensures { (result ≡ (call (begins_conjunction C) self.old).answer) × (self.new ≡ (call (begins_conjunction C) self.old).session) × Reached self.new }
     {
-        let before = *self;
-        let r = calls::begin_conjunction(before, C);
+        let r = calls::begin_conjunction(*self, C);
         *self = r.session;
         r.answer
     }
@@ -31,8 +29,7 @@ impl Session {
         requires { Reached self.old }
         ensures { (result ≡ (call (adds count) self.old).answer) × (self.new ≡ (call (adds count) self.old).session) × Reached self.new }
     {
-        let before = *self;
-        let r = calls::add(before, count);
+        let r = calls::add(*self, count);
         *self = r.session;
         r.answer
     }

@@ -1,3 +1,4 @@
+use mathlib.Core.Path.{sym}
 use native.Mathlib.Omega.{arith}
 use Rattle.encounter.specs.Private.Loops.{narrow}
 use Rattle.encounter.proofs.decimals.Searching.{below_one}
@@ -6,24 +7,23 @@ use Rattle.encounter.proofs.decimals.below_one.Goals as goal
 
 pub digits-requires : goal.digits-requires
 digits-requires c =
-    let r = c.least_power_of-r.ensures in
+    let (l, k, w) = c.in-Some.ensures in
     let x = narrow c.args.x in
-    whole_fine c.args.up x (below_one c.args.up x c.args.s c.requires) r.0 c.if-k-lt-POWERS.true r.1
+    whole_fine c.args.up x (below_one c.args.up x c.args.s c.requires) k l w
 
 pub decimal_at-requires : goal.decimal_at-requires
 decimal_at-requires c =
-    let r = c.least_power_of-r.ensures in
+    let (l, k, w) = c.in-Some.ensures in
     let x = narrow c.args.x in
-    digits_fine c.args.up x (below_one c.args.up x c.args.s c.requires) r.0 c.if-k-lt-POWERS.true r.1 c.digits.ensures
+    digits_fine c.args.up x (below_one c.args.up x c.args.s c.requires) k l w c.digits.ensures
 
-pub returns-then-k-lt-POWERS : goal.returns-then-k-lt-POWERS
-returns-then-k-lt-POWERS c =
-    let r = c.least_power_of-r.ensures in
+pub returns-in-Some : goal.returns-in-Some
+returns-in-Some c =
+    let (l, k, w) = c.in-Some.ensures in
     let x = narrow c.args.x in
-    found_is c.args.up x (below_one c.args.up x c.args.s c.requires) r.0 c.if-k-lt-POWERS.true r.1 c.digits.ensures c.decimal_at.ensures
+    found_is c.args.up x (below_one c.args.up x c.args.s c.requires) k l w c.digits.ensures c.decimal_at.ensures
 
-pub returns : goal.returns
-returns c =
-    let r = c.least_power_of-r.ensures in
+pub returns-in-None : goal.returns-in-None
+returns-in-None c =
     let x = narrow c.args.x in
-    none_is c.args.up x (below_one c.args.up x c.args.s c.requires) r.0 (omega (arith, c.requires.bits.low)) c.if-k-lt-POWERS.false c.below_the_table.ensures
+    none_is c.args.up x (below_one c.args.up x c.args.s c.requires) (sym c.in-None.ensures) (omega (arith, c.requires.bits.low)) (omega arith) c.below_the_table.ensures

@@ -5,8 +5,5 @@ use Rattle.encounter.proofs.decimals.decimal_at.Goals as goal
 pub returns-then-n-lt10000 : goal.returns-then-n-lt10000
 returns-then-n-lt10000 c = sym (at_power_few _ _ c.if-n-lt10000.true)
 
-pub overflow_sub-result-3 : goal.overflow_sub-result-3
-overflow_sub-result-3 c = c.requires.3 c.if-n-lt10000.false
-
-pub returns : goal.returns
-returns c = sym (at_power_carried _ _ c.if-n-lt10000.false)
+pub returns-else-n-lt10000 : goal.returns-else-n-lt10000
+returns-else-n-lt10000 c = sym (at_power_carried _ _ c.if-n-lt10000.false)

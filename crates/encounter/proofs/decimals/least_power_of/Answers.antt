@@ -1,39 +1,34 @@
 use native.Mathlib.Omega.{arith}
 use borrow.Author.Count.{below_more}
-use borrow.Author.Rules.{rules}
 use lib.Dec.{lit≤}
+use mathlib.Core.Path.{sym}
 use Rattle.exact.specs.Decimals.{table_length}
 use Rattle.encounter.specs.Private.Loops.{narrow}
-use Rattle.encounter.proofs.decimals.Searching.{in_range, before_first, first_within, reaches_yes, reaches_no, least_at}
+use Rattle.encounter.proofs.decimals.Searching.{in_range, before_first, reaches_yes, reaches_no, least_at}
 use Rattle.encounter.proofs.decimals.least_power_of.Goals as goal
 
 pub loop-k-init : goal.loop-k-init
-loop-k-init c =
-    rw c.first_power-k.ensures
-    (omega arith, omega (arith, first_within c.args.s c.requires.deepest), before_first c.args.up (narrow c.args.x) c.args.s c.requires)
+loop-k-init c = rw c.first_power-k.ensures (omega arith, before_first c.args.up (narrow c.args.x) c.args.s c.requires)
 
 pub whole_at-whole-requires : goal.whole_at-whole-requires
 whole_at-whole-requires c =
     let inv = c.loop-k.invariant in
-    (in_range c.args.up (narrow c.args.x) c.args.s c.requires, inv.0, c.loop-k-test.true, inv.2 _ (omega (arith, inv.0)))
+    (in_range c.args.up (narrow c.args.x) c.args.s c.requires, inv.0, c.loop-k-test.true, inv.1 _ (omega (arith, inv.0)))
 
 pub returns-then-whole-ge1000 : goal.returns-then-whole-ge1000
 returns-then-whole-ge1000 c =
     let a = c.args in
     let l = c.loop-k in
     let w = c.whole_at-whole.ensures in
-    (least_at a.up (narrow a.x) l.k l.invariant.1 l.invariant.2 (λ m. reaches_yes a.up (narrow a.x) l.k w c.if-whole-ge1000.true), λ m. w)
+    (c.loop-k-test.true, least_at a.up (narrow a.x) l.k (omega (arith, c.loop-k-test.true)) l.invariant.1 (λ m. reaches_yes a.up (narrow a.x) l.k w c.if-whole-ge1000.true), w)
 
 pub loop-k-preserved : goal.loop-k-preserved
 loop-k-preserved c =
     let a = c.args in
     let l = c.loop-k in
-    (omega arith, search rules, below_more _ _ l.invariant.2 (reaches_no a.up (narrow a.x) l.k c.whole_at-whole.ensures (λ m. omega (arith, m, c.if-whole-ge1000.false))))
+    (omega arith, below_more _ _ l.invariant.1 (reaches_no a.up (narrow a.x) l.k c.whole_at-whole.ensures (λ m. omega (arith, m, c.if-whole-ge1000.false))))
 
 pub returns : goal.returns
 returns c =
-    let inv = c.loop-k.invariant in
-    let end = c.loop-k-test.false in (
-      least_at c.args.up (narrow c.args.x) table_length (lit≤ tt) (λ j l. inv.2 j (omega (arith, end))) (λ l. let f : ⊥ = omega arith in absurd f),
-      λ l. let f : ⊥ = omega arith in absurd f,
-    )
+    let end = c.loop-k-test.false in
+    sym (least_at c.args.up (narrow c.args.x) table_length (lit≤ tt) (λ j l. c.loop-k.invariant.1 j (omega (arith, l, end))) (λ l. let f : ⊥ = omega arith in absurd f))

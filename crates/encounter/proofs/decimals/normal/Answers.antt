@@ -3,6 +3,7 @@ use mathlib.Core.Logic.{inr}
 use Prim.Native.Nat.{ℕ, ◌+◌, ◌*◌, ◌^◌, ◌<◌}
 use native.Mathlib.Nat.{mod-eq_of_lt}
 use native.Mathlib.Omega.{arith}
+use borrow.Author.Rules.{rules}
 use lib.Count.{count_leading_zeros}
 use lib.Ieee.{size}
 use lib.IntN.{ℤ, pos, ◌-ℤ◌}
@@ -27,30 +28,16 @@ module _ (m : ℕ) (some : 0 < m) (fits : m < 2 ^ 32) where
   full : (e : ℤ) → Normal 32 (scaled (m * 2 ^ count_leading_zeros 32 m) e)
   full e = let n = whole_normal 32 m some fits (count_leading_zeros 32 m) bits in record { low = n.low; high = n.high }
 
-pub overflow_shl-m : goal.overflow_shl-m
-overflow_shl-m c = few c.args.x.m c.requires c.struct_told-1.given.0.1
-
-pub overflow_cast-a : goal.overflow_cast-a
-overflow_cast-a c = let h : SFits w32 c.args.x.e = record { sfits = c.struct_told-1.given.1.0.1 } in rw (to_z-of_z {w = w32} h) (longer h)
-
-pub overflow_cast-z : goal.overflow_cast-z
-overflow_cast-z c = record { fits = omega (arith, few c.args.x.m c.requires c.struct_told-1.given.0.1) }
-
-pub lowered-e-requires : goal.lowered-e-requires
-lowered-e-requires c =
-    let h : SFits w32 c.args.x.e = record { sfits = c.struct_told-1.given.1.0.1 } in
-    rw (to_z-of_z {w = w32} h, to_z-of_z (longer h)) (omega (arith, neg_fits h, few c.args.x.m c.requires c.struct_told-1.given.0.1))
-
 pub returns : goal.returns
 returns c =
     let a = c.args.x in
     let some = c.requires in
-    let fits = c.struct_told-1.given.0.1 in
-    let h : SFits w32 c.args.x.e = record { sfits = c.struct_told-1.given.1.0.1 } in
+    let fits : a.m < 2 ^ 32 = omega arith in
+    let h : SFits w32 a.e = search rules in
     let e = a.e -ℤ pos (count_leading_zeros 32 a.m) in
     let n = full a.m some fits e in
     let l = few a.m some fits in
-    rw (mod-eq_of_lt n.high, back_in w64 c.lowered-e.result c.lowered-e.type_inv, c.lowered-e.ensures, to_z-of_z {w = w32} h, to_z-of_z (longer h)) (
+    rw (c.from.ensures, mod-eq_of_lt n.high, back_in w64 c.lowered.result c.lowered.type_inv, c.lowered.ensures, c.from-3.ensures, c.from-2.ensures, to_z-of_z {w = w32} h, to_z-of_z (longer h)) (
       n,
       record { is_scaled = inr n; above = omega (arith, pos_diff a.e (pos (count_leading_zeros 32 a.m)), pos_fits h, l); below = omega (arith, neg_diff a.e (pos (count_leading_zeros 32 a.m)), neg_fits h, l) },
       shift_same a.m (count_leading_zeros 32 a.m) a.e,

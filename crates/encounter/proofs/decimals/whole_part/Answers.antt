@@ -13,10 +13,10 @@ pub gap-n-requires : goal.gap-n-requires
 gap-n-requires c =
     rw (to_z-of_z (in_fits c.requires.0)) (diff_fits_in w64 (pos 0) c.args.p.e (omega (arith, c.requires.0.below)) (omega (arith, c.requires.0.above)))
 
-pub returns-then-n-gt63 : goal.returns-then-n-gt63
-returns-then-n-gt63 c =
-    no_part (narrow c.args.p) c.gap-n.result c.requires.1 (rw (to_z-of_z (in_fits c.requires.0)) at c.gap-n.ensures) (scaled_high c.requires.0.is_scaled) c.if-n-gt63.true
+pub returns-else-n-lt64 : goal.returns-else-n-lt64
+returns-else-n-lt64 c =
+    no_part (narrow c.args.p) c.gap-n.result c.requires.1 (rw (to_z-of_z (in_fits c.requires.0)) at c.gap-n.ensures) (scaled_high c.requires.0.is_scaled) c.if-n-lt64.false
 
-pub returns : goal.returns
-returns c =
+pub returns-then-n-lt64 : goal.returns-then-n-lt64
+returns-then-n-lt64 c =
     part (narrow c.args.p) c.gap-n.result c.requires.1 (rw (to_z-of_z (in_fits c.requires.0)) at c.gap-n.ensures)

@@ -13,8 +13,8 @@ pub sum-under-requires : goal.sum-under-requires
 sum-under-requires c =
     (widen (lit≤ tt) (upper_exponential_fine c.args.s c.requires), widen (lit≤ tt) (double_of c.doubled.ensures (r256_fine c.args.s c.requires)))
 
-pub quotient-end-requires : goal.quotient-end-requires
-quotient-end-requires c =
+pub quotient-requires : goal.quotient-requires
+quotient-requires c =
     let y = double_of c.doubled.ensures (r256_fine c.args.s c.requires) in (
       widen (lit≤ tt) (lower_sum_fine c.args.s c.requires),
       widen (lit≤ tt) (sum_of true (number_of true _ _ c.sum-under.ensures) (widen (lit≤ tt) (upper_exponential_fine c.args.s c.requires)) y),
@@ -23,4 +23,4 @@ quotient-end-requires c =
 
 pub returns : goal.returns
 returns c =
-    lower_end_is c.args.s c.requires c.doubled.ensures (number_of true _ _ c.sum-under.ensures) (number_of false _ _ c.quotient-end.ensures)
+    lower_end_is c.args.s c.requires c.doubled.ensures (number_of true _ _ c.sum-under.ensures) (number_of false _ _ c.quotient.ensures)

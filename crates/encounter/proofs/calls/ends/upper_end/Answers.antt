@@ -13,8 +13,8 @@ pub sum-over-requires : goal.sum-over-requires
 sum-over-requires c =
     (widen (lit≤ tt) (upper_sum_fine c.args.s c.requires), widen (lit≤ tt) (double_of c.doubled.ensures (d_fine c.args.s c.requires)))
 
-pub quotient-end-requires : goal.quotient-end-requires
-quotient-end-requires c =
+pub quotient-requires : goal.quotient-requires
+quotient-requires c =
     let y = double_of c.doubled.ensures (d_fine c.args.s c.requires) in (
       widen (lit≤ tt) (sum_of true (number_of true _ _ c.sum-over.ensures) (widen (lit≤ tt) (upper_sum_fine c.args.s c.requires)) y),
       widen (lit≤ tt) (lower_exponential_fine c.args.s c.requires),
@@ -23,4 +23,4 @@ quotient-end-requires c =
 
 pub returns : goal.returns
 returns c =
-    upper_end_is c.args.s c.requires c.doubled.ensures (number_of true _ _ c.sum-over.ensures) (number_of true _ _ c.quotient-end.ensures)
+    upper_end_is c.args.s c.requires c.doubled.ensures (number_of true _ _ c.sum-over.ensures) (number_of true _ _ c.quotient.ensures)
