@@ -1,3 +1,4 @@
+pub mod Entries
 pub mod Wholes
 pub mod Searching
 pub mod Cases
