@@ -52,24 +52,6 @@ pub one_at_most : (b : Bool) {n : ℕ} → n ≡ cond b 0 1 → n ≤ 1
 one_at_most true e = omega (arith, e)
 one_at_most false e = omega (arith, e)
 
--- ---- the loop's test
-
-pub may_go_on : (m n k : ℕ) {t : Bool} → t ≡ (ltb 0 m && ltb n k) → t ≡ true → (0 < m) × (n < k)
-may_go_on m n k e f = go (ltb 0 m) (ltb n k) refl refl (sym e ∙ f)
-  where
-    go : (a b : Bool) → ltb 0 m ≡ a → ltb n k ≡ b → a && b ≡ true → (0 < m) × (n < k)
-    go true true e f h = (ltb-true 0 m e, ltb-true n k f)
-    go true false e f h = absurd (false≢true h)
-    go false b e f h = absurd (false≢true h)
-
-none_more : (m n k : ℕ) {t : Bool} → t ≡ (ltb 0 m && ltb n k) → t ≡ false → (k ≤ n) ⊎ (m ≤ 0)
-none_more m n k e f = go (ltb 0 m) (ltb n k) refl refl (sym e ∙ f)
-  where
-    go : (a b : Bool) → ltb 0 m ≡ a → ltb n k ≡ b → a && b ≡ false → (k ≤ n) ⊎ (m ≤ 0)
-    go true true e f h = absurd (true≢false h)
-    go true false e f h = inl (ltb-false n k f)
-    go false b e f h = inr (ltb-false 0 m e)
-
 -- ---- the numbers of a session, taken on
 
 module _ (s : Session) (b : Begun s) where
@@ -133,12 +115,10 @@ module _ (s : Session) (b : Begun s) where
         let o = opposite (lossless E (suc (suc n))) ey k.1 in
         λ i. record { lower = u i; upper = v i; counts = record { exact = c i; lossless = o i } }
 
-    -- after the loop, where the last index is m
-    pub counting_ends : (m : ℕ) {t : Bool} → n ≤ m → t ≡ (ltb 0 w.counts.lossless && ltb n m) → t ≡ false → w.counts ≡ counts E (suc m)
-    counting_ends m k et ef = go (none_more _ n m et ef)
-      where
-        go : (m ≤ n) ⊎ (w.counts.lossless ≤ 0) → w.counts ≡ counts E (suc m)
-        go (inl l) = let i : n ≡ m = omega (arith, k, l) in ap (λ (w : Counting). w.counts) e ∙ rw i
-        go (inr z) =
-            let i : suc n + (m - n) ≡ suc m = omega (arith, k) in
-            ap (λ (w : Counting). w.counts) e ∙ all_lost E n (m - n) (is_none _ (rw e at z)) ∙ rw i
+    -- after the loop, which ends at m or where something was lost
+    pub counting_ends : (m : ℕ) → n ≤ m → (m ≤ n) ⊎ (w.counts.lossless ≡ 0) → w.counts ≡ counts E (suc m)
+    counting_ends m k (inl l) = let i : n ≡ m = omega (arith, k, l) in ap (λ (w : Counting). w.counts) e ∙ rw i
+    counting_ends m k (inr z) =
+        let i : suc n + (m - n) ≡ suc m = omega (arith, k) in
+        let o : cond (lossless E (suc n)) 1 0 ≤ 0 = omega (arith, rw e at z) in
+        ap (λ (w : Counting). w.counts) e ∙ all_lost E n (m - n) (is_none _ o) ∙ rw i

@@ -43,38 +43,26 @@ fn next_counting(s: Session, w: Counting, n: u64) -> Counting
     }
 }
 
-// Whether a term may be exact, where n is the index before it and the last index is `limit`.
-fn may_be_exact(lossless: u32, n: u64, limit: u64) -> bool
-    ensures { result ≡ (ltb 0 lossless && ltb n limit) }
-{
-    if lossless == 0 {
-        return false;
-    }
-    n < limit
-}
-
 // The counts `count` terms on.
 pub fn counts_after(s: Session, count: u32) -> Counts
     requires { (Begun s) × (s.N + count ≤ largest_order) }
     ensures { result ≡ counts s.encounter (s.N + count) }
 {
-    let below = s.lower;
-    let above = s.upper;
-    let lower = below.terms;
-    let upper = above.terms;
-    let exact = s.exact;
-    let lossless = s.lossless;
-    let counts = Counts { exact, lossless };
     let mut w = Counting {
-        lower,
-        upper,
-        counts,
+        lower: s.lower.terms,
+        upper: s.upper.terms,
+        counts: Counts {
+            exact: s.exact,
+            lossless: s.lossless,
+        },
     };
+    let first = (s.N - 1) as u64;
     let limit = (s.N + count - 1) as u64;
-    let mut n = (s.N - 1) as u64;
-    while may_be_exact(w.counts.lossless, n, limit) {
+    for n in first..limit {
+        if w.counts.lossless == 0 {
+            break;
+        }
         w = next_counting(s, w, n);
-        n += 1;
     }
     w.counts
 }

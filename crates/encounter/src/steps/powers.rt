@@ -37,10 +37,8 @@ fn rounds(t: Pair, first: PowerPairs) -> PowerPairs
     ensures { (E : Encounter) → PowersAt E 0 t first → PowersAt E (pred exponential_cut) t result }
 {
     let mut w = first;
-    let mut k: u64 = 0;
-    while k < LAST {
+    for k in 0..LAST {
         w = one_round(t, w, k);
-        k += 1;
     }
     w
 }

@@ -30,13 +30,12 @@ struct Numbers {
 fn numbers_of(s: Session) -> Numbers
     ensures { ((letters_of false result.l ≡ step_letters s.lower.letters) × (letters_of true result.l ≡ step_letters s.upper.letters)) × (narrow result.M ≡ s.M) × ((terms_of false result.t ≡ step_terms s.lower.terms) × (terms_of true result.t ≡ step_terms s.upper.terms)) × (narrow result.d ≡ s.d) }
 {
-    let below = s.lower;
-    let above = s.upper;
-    let l = letter_pairs(below.letters, above.letters);
-    let M = widen(s.M);
-    let t = term_pairs(below.terms, above.terms);
-    let d = widen(s.d);
-    Numbers { l, M, t, d }
+    Numbers {
+        l: letter_pairs(s.lower.letters, s.upper.letters),
+        M: widen(s.M),
+        t: term_pairs(s.lower.terms, s.upper.terms),
+        d: widen(s.d),
+    }
 }
 
 // `count` terms more.
@@ -44,20 +43,16 @@ pub fn advance(s: Session, count: u32) -> Progress
     requires { (Begun s) × (s.N + count ≤ largest_order) }
     ensures { result ≡ progress s.encounter (s.N + count - 1) }
 {
-    let w = numbers_of(s);
-    let l = w.l;
-    let M = w.M;
-    let mut t = w.t;
-    let mut d = w.d;
+    let Numbers { l, M, mut t, mut d } = numbers_of(s);
+    let first = (s.N - 1) as u64;
     let limit = (s.N + count - 1) as u64;
-    let mut n = (s.N - 1) as u64;
-    while n < limit {
+    for n in first..limit {
         t = next_terms(l, t, n);
         d = next_tail(M, d, n + 1);
-        n += 1;
     }
-    let lower = side_terms(false, t);
-    let upper = side_terms(true, t);
-    let d = narrowed(d);
-    Progress { lower, upper, d }
+    Progress {
+        lower: side_terms(false, t),
+        upper: side_terms(true, t),
+        d: narrowed(d),
+    }
 }
