@@ -15,19 +15,19 @@ use Rattle.exact.proofs.Losses.{clean_term, clean_operand}
 use Rattle.encounter.specs.declared.state.Letters.{Letters}
 use Rattle.encounter.specs.declared.state.Terms.{Terms}
 use Rattle.encounter.specs.declared.steps.losses.Losses.{Losses}
-use Rattle.encounter.specs.declared.steps.losses.TracedLetters.{TracedLetters}
-use Rattle.encounter.specs.declared.steps.losses.TracedTerms.{TracedTerms}
+use Rattle.encounter.specs.declared.steps.numbers.LetterSet.{LetterSet}
+use Rattle.encounter.specs.declared.steps.numbers.TermSet.{TermSet}
 use Rattle.encounter.specs.Private.Held.{step_letters, step_terms, held_terms, way_letters, way_terms, CleanLosses}
 
 -- ---- a side's losses one index on, from clean numbers
 
-pub clean_letters_fine : {l : Letters} {w : TracedLetters} → way_letters w ≡ clean_letters (step_letters l) → LettersIn (step_letters l) → LettersIn (letter_numbers (way_letters w))
+pub clean_letters_fine : {l : Letters} {w : LetterSet Traced} → way_letters w ≡ clean_letters (step_letters l) → LettersIn (step_letters l) → LettersIn (letter_numbers (way_letters w))
 clean_letters_fine e i = subst (λ (x : LettersOf Traced). LettersIn (letter_numbers x)) (sym e) i
 
-pub clean_terms_fine : {s : Terms} {w : TracedTerms} → way_terms w ≡ clean_terms (step_terms s) → TermsIn largest_exponent (step_terms s) → TermsIn largest_exponent (term_numbers (way_terms w))
+pub clean_terms_fine : {s : Terms} {w : TermSet Traced} → way_terms w ≡ clean_terms (step_terms s) → TermsIn largest_exponent (step_terms s) → TermsIn largest_exponent (term_numbers (way_terms w))
 clean_terms_fine e i = subst (λ (x : TermsOf Traced). TermsIn largest_exponent (term_numbers x)) (sym e) i
 
-pub clean_losses_are : (up : Bool) (n : ℕ) {l : Letters} {s : Terms} {w : TracedLetters} {t x : TracedTerms} {r : Losses}
+pub clean_losses_are : (up : Bool) (n : ℕ) {l : Letters} {s : Terms} {w : LetterSet Traced} {t x : TermSet Traced} {r : Losses}
     → way_letters w ≡ clean_letters (step_letters l) → way_terms t ≡ clean_terms (step_terms s) → way_terms x ≡ next (traced up 32) (way_letters w) n (way_terms t)
     → (r.term ≡ (way_terms x).c.lost) × (r.operand ≡ operand_lost (way_letters w) (way_terms x))
     → CleanLosses up (step_letters l) (step_terms s) n r
@@ -36,7 +36,7 @@ clean_losses_are up n ew et ex e =
     record { term_is = e.0 ∙ (λ i. (p i).c.lost); operand_is = e.1 ∙ (λ i. operand_lost (ew i) (p i)) }
 
 -- the numbers are those formed without losses
-pub clean_terms_are : (up : Bool) (n : ℕ) {l : Letters} {s r : Terms} {w : TracedLetters} {t x : TracedTerms}
+pub clean_terms_are : (up : Bool) (n : ℕ) {l : Letters} {s r : Terms} {w : LetterSet Traced} {t x : TermSet Traced}
     → way_letters w ≡ clean_letters (step_letters l) → way_terms t ≡ clean_terms (step_terms s) → way_terms x ≡ next (traced up 32) (way_letters w) n (way_terms t)
     → r ≡ held_terms (term_numbers (way_terms x)) → r ≡ held_terms (next (rounded up 32) (step_letters l) n (step_terms s))
 unfolding next next_c next_p next_v next_y traced rounded rounding

@@ -16,8 +16,8 @@ use Rattle.encounter.specs.declared.state.Session.{Session}
 use Rattle.encounter.specs.declared.steps.counts.Counts.{Counts}
 use Rattle.encounter.specs.declared.steps.counts.Counting.{Counting}
 use Rattle.encounter.specs.declared.steps.losses.Losses.{Losses}
-use Rattle.encounter.specs.declared.steps.losses.TracedLetters.{TracedLetters}
-use Rattle.encounter.specs.declared.steps.losses.TracedTerms.{TracedTerms}
+use Rattle.encounter.specs.declared.steps.numbers.LetterSet.{LetterSet}
+use Rattle.encounter.specs.declared.steps.numbers.TermSet.{TermSet}
 use Rattle.encounter.specs.declared.steps.progress.Progress.{Progress}
 use Rattle.encounter.specs.Session.{state, conjunction_of}
 
@@ -34,10 +34,10 @@ abbrev pub step_terms : Terms → TermsOf Scaled
 step_terms s = record { c = s.c; p = s.p; v = s.v; y = s.y; sum = s.sum }
 
 -- the same, each with whether something was lost on its way
-abbrev pub way_letters : TracedLetters → LettersOf Traced
+abbrev pub way_letters : LetterSet Traced → LettersOf Traced
 way_letters l = record { u = l.u; h = l.h; X = l.X; Y = l.Y; t = l.t }
 
-abbrev pub way_terms : TracedTerms → TermsOf Traced
+abbrev pub way_terms : TermSet Traced → TermsOf Traced
 way_terms s = record { c = s.c; p = s.p; v = s.v; y = s.y; sum = s.sum }
 
 -- one index on, from letters l and terms s of index n on whose way nothing was lost: what was lost on the way to the term, and to what the next one is formed of

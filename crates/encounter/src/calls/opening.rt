@@ -10,12 +10,13 @@ ghost use Rattle.encounter.specs.Private.Held.{way_letters};
 use crate::state::{Session, Side};
 use crate::steps::letters::start;
 use crate::steps::losses::{
-    Losses, TracedLetters, either_side, first_terms, letter_numbers, losses_at, none_lost,
+    Losses, either_side, first_terms, letter_numbers, losses_at, none_lost,
     term_numbers,
 };
+use crate::steps::numbers::LetterSet;
 use crate::steps::powers::exponential_sums;
 use crate::steps::terms::first_tail;
-use exact::{Encounter, Scaled};
+use exact::{Encounter, Scaled, Traced};
 
 // A side at order 1, and its losses.
 #[derive(Clone, Copy)]
@@ -25,7 +26,7 @@ struct OpenSide {
 }
 
 // From its letters and its exponential sum.
-fn open_side(up: bool, E: Encounter, l: TracedLetters, exponential: Scaled) -> OpenSide
+fn open_side(up: bool, E: Encounter, l: LetterSet<Traced>, exponential: Scaled) -> OpenSide
     requires { (Bounds E) × (way_letters l ≡ traced_letters up E) × (exponential ≡ exponential_sum up E) }
     ensures { (result.side ≡ side up E 1) × (result.losses.term ≡ term_lost up E 0) × (result.losses.operand ≡ operand_lost (traced_letters up E) (traced_terms up E 0)) }
 {
@@ -53,7 +54,7 @@ struct OpenSides {
 }
 
 // From both sides' letters.
-fn open_sides(E: Encounter, below: TracedLetters, above: TracedLetters) -> OpenSides
+fn open_sides(E: Encounter, below: LetterSet<Traced>, above: LetterSet<Traced>) -> OpenSides
     requires { (Accepted E) × (way_letters below ≡ traced_letters false E) × (way_letters above ≡ traced_letters true E) }
     ensures { (result.lower ≡ side false E 1) × (result.upper ≡ side true E 1) × (result.losses.term ≡ either_lost E 0) × (result.losses.operand ≡ not (lossless E 1)) × (result.r256 ≡ r256_of E) }
 {
@@ -73,7 +74,7 @@ fn open_sides(E: Encounter, below: TracedLetters, above: TracedLetters) -> OpenS
 }
 
 // From both sides' letters and M. The upper letters and M were formed for tests 7 and 11.
-pub fn opened(E: Encounter, below: TracedLetters, above: TracedLetters, M: Scaled) -> Session
+pub fn opened(E: Encounter, below: LetterSet<Traced>, above: LetterSet<Traced>, M: Scaled) -> Session
     requires { (Accepted E) × (way_letters below ≡ traced_letters false E) × (way_letters above ≡ traced_letters true E) × (M ≡ MOf E) }
     ensures { result ≡ state (no_object E) 1 }
 {

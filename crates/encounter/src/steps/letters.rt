@@ -13,7 +13,7 @@ use crate::arithmetic::scaled;
 use crate::arithmetic::scaled::{halved, ratio};
 use crate::arithmetic::traced::{product, sum};
 use crate::state::Letters;
-use crate::steps::losses::TracedLetters;
+use crate::steps::numbers::LetterSet;
 use exact::{Encounter, Scaled, Traced};
 
 // x × y of lengths in centimetres.
@@ -94,7 +94,7 @@ fn fractions(up: bool, E: Encounter) -> Parts
     Parts { u, b, zx, zy, g }
 }
 
-pub fn letters(up: bool, E: Encounter) -> TracedLetters
+pub fn letters(up: bool, E: Encounter) -> LetterSet<Traced>
     requires { Bounds E }
     ensures { (way_letters result ≡ traced_letters up E) × (LettersIn (letter_numbers (way_letters result))) }
 {
@@ -104,7 +104,7 @@ pub fn letters(up: bool, E: Encounter) -> TracedLetters
     let X = product(up, f.zx, f.b);
     let Y = product(up, f.zy, u);
     let t = three(up, f.zx, f.zy, u);
-    TracedLetters { u, h, X, Y, t }
+    LetterSet { u, h, X, Y, t }
 }
 
 // M.

@@ -11,30 +11,11 @@ ghost use Rattle.encounter.specs.Private.Held.{step_letters, step_terms, held_le
 use crate::arithmetic::rounding::either;
 use crate::arithmetic::traced::{clean, halved, over, product, sum};
 use crate::state::{Letters, Terms};
+use crate::steps::numbers::{LetterSet, TermSet};
 use exact::Traced;
 
-// A side's letters.
-#[derive(Clone, Copy)]
-pub struct TracedLetters {
-    pub u: Traced,
-    pub h: Traced,
-    pub X: Traced,
-    pub Y: Traced,
-    pub t: Traced,
-}
-
-// A side's c, p, v and y of one index, and its sum to there.
-#[derive(Clone, Copy)]
-pub struct TracedTerms {
-    pub c: Traced,
-    pub p: Traced,
-    pub v: Traced,
-    pub y: Traced,
-    pub sum: Traced,
-}
-
 // The letters without their losses.
-pub fn letter_numbers(l: TracedLetters) -> Letters
+pub fn letter_numbers(l: LetterSet<Traced>) -> Letters
     ensures { result ≡ held_letters (letter_numbers (way_letters l)) }
 {
     let u = l.u.number;
@@ -46,7 +27,7 @@ pub fn letter_numbers(l: TracedLetters) -> Letters
 }
 
 // The terms without their losses.
-pub fn term_numbers(s: TracedTerms) -> Terms
+pub fn term_numbers(s: TermSet<Traced>) -> Terms
     ensures { result ≡ held_terms (term_numbers (way_terms s)) }
 {
     let c = s.c.number;
@@ -58,7 +39,7 @@ pub fn term_numbers(s: TracedTerms) -> Terms
 }
 
 // Letters on whose way nothing was lost.
-fn clean_letters(l: Letters) -> TracedLetters
+fn clean_letters(l: Letters) -> LetterSet<Traced>
     ensures { way_letters result ≡ clean_letters (step_letters l) }
 {
     let u = clean(l.u);
@@ -66,11 +47,11 @@ fn clean_letters(l: Letters) -> TracedLetters
     let X = clean(l.X);
     let Y = clean(l.Y);
     let t = clean(l.t);
-    TracedLetters { u, h, X, Y, t }
+    LetterSet { u, h, X, Y, t }
 }
 
 // Terms on whose way nothing was lost.
-fn clean_terms(s: Terms) -> TracedTerms
+fn clean_terms(s: Terms) -> TermSet<Traced>
     ensures { way_terms result ≡ clean_terms (step_terms s) }
 {
     let c = clean(s.c);
@@ -78,16 +59,16 @@ fn clean_terms(s: Terms) -> TracedTerms
     let v = clean(s.v);
     let y = clean(s.y);
     let sum = clean(s.sum);
-    TracedTerms { c, p, v, y, sum }
+    TermSet { c, p, v, y, sum }
 }
 
 // A side's terms of index 0.
-pub fn first_terms(up: bool, l: TracedLetters, start: Traced) -> TracedTerms
+pub fn first_terms(up: bool, l: LetterSet<Traced>, start: Traced) -> TermSet<Traced>
     requires { (InRange 32 177 l.u.number) × (InRange 32 177 start.number) }
     ensures { way_terms result ≡ first (traced up 32) (way_letters l) start }
 {
     let p = product(up, l.u, start);
-    TracedTerms {
+    TermSet {
         c: start,
         p,
         v: start,
@@ -99,7 +80,7 @@ pub fn first_terms(up: bool, l: TracedLetters, start: Traced) -> TracedTerms
 // The steps of terms.rt, of one side and with losses.
 
 // c(n + 1).
-fn next_term(up: bool, l: TracedLetters, s: TracedTerms, n: u64) -> Traced
+fn next_term(up: bool, l: LetterSet<Traced>, s: TermSet<Traced>, n: u64) -> Traced
     requires { (n < largest_order) × (LettersIn (letter_numbers (way_letters l))) × (TermsIn largest_exponent (term_numbers (way_terms s))) }
     ensures { result ≡ next_c (traced up 32) (way_letters l) n (way_terms s) }
 {
@@ -127,7 +108,7 @@ fn next_weighted(up: bool, x: Traced, h: Traced, y: Traced, n: u64) -> Traced
 }
 
 // The terms of index n + 1 from those of index n.
-fn next_terms(up: bool, l: TracedLetters, s: TracedTerms, n: u64) -> TracedTerms
+fn next_terms(up: bool, l: LetterSet<Traced>, s: TermSet<Traced>, n: u64) -> TermSet<Traced>
     requires { (n < largest_order) × (LettersIn (letter_numbers (way_letters l))) × (TermsIn largest_exponent (term_numbers (way_terms s))) }
     ensures { way_terms result ≡ next (traced up 32) (way_letters l) n (way_terms s) }
 {
@@ -137,7 +118,7 @@ fn next_terms(up: bool, l: TracedLetters, s: TracedTerms, n: u64) -> TracedTerms
     let v = next_weighted(up, c, h, s.v, n);
     let y = next_weighted(up, v, h, s.y, n);
     let sum = sum(up, s.sum, c);
-    TracedTerms { c, p, v, y, sum }
+    TermSet { c, p, v, y, sum }
 }
 
 // Whether something was lost on the way to a term, and whether it was on the way to what the next term is formed of.
@@ -148,7 +129,7 @@ pub struct Losses {
 }
 
 // A side's losses, at the index of s.
-pub fn losses_at(l: TracedLetters, s: TracedTerms) -> Losses
+pub fn losses_at(l: LetterSet<Traced>, s: TermSet<Traced>) -> Losses
     ensures { (result.term ≡ (way_terms s).c.lost) × (result.operand ≡ operand_lost (way_letters l) (way_terms s)) }
 {
     let h = l.h;

@@ -6,7 +6,8 @@ ghost use Rattle.encounter.specs.Private.Loops.{narrow, letters_of, terms_of};
 
 use crate::arithmetic::wide::{Wide, narrowed, widen};
 use crate::state::{Session, Terms};
-use crate::steps::sides::{LetterPairs, TermPairs, letter_pairs, side_terms, term_pairs};
+use crate::steps::numbers::{LetterSet, TermSet};
+use crate::steps::sides::{Pair, letter_pairs, side_terms, term_pairs};
 use crate::steps::terms::{next_tail, next_terms};
 use exact::Scaled;
 
@@ -21,9 +22,9 @@ pub struct Progress {
 // A session's numbers as the loop holds them.
 #[derive(Clone, Copy)]
 struct Numbers {
-    l: LetterPairs,
+    l: LetterSet<Pair>,
     M: Wide,
-    t: TermPairs,
+    t: TermSet<Pair>,
     d: Wide,
 }
 

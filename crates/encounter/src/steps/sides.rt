@@ -11,30 +11,13 @@ use crate::arithmetic::wide::{
     Reciprocal, Rounded, Wide, halved, narrowed, over, over_by, product, sum, widen,
 };
 use crate::state::{Letters, Terms};
+use crate::steps::numbers::{LetterSet, TermSet};
 use exact::Scaled;
 
 #[derive(Clone, Copy)]
 pub struct Pair {
     pub lower: Wide,
     pub upper: Wide,
-}
-
-#[derive(Clone, Copy)]
-pub struct LetterPairs {
-    pub u: Pair,
-    pub h: Pair,
-    pub X: Pair,
-    pub Y: Pair,
-    pub t: Pair,
-}
-
-#[derive(Clone, Copy)]
-pub struct TermPairs {
-    pub c: Pair,
-    pub p: Pair,
-    pub v: Pair,
-    pub y: Pair,
-    pub sum: Pair,
 }
 
 // r(k), and the sum of r(0) to r(k).
@@ -52,7 +35,7 @@ pub fn pair_of(lower: Scaled, upper: Scaled) -> Pair
     Pair { lower, upper }
 }
 
-pub fn letter_pairs(a: Letters, b: Letters) -> LetterPairs
+pub fn letter_pairs(a: Letters, b: Letters) -> LetterSet<Pair>
     ensures { (letters_of false result ≡ step_letters a) × (letters_of true result ≡ step_letters b) }
 {
     let u = pair_of(a.u, b.u);
@@ -60,10 +43,10 @@ pub fn letter_pairs(a: Letters, b: Letters) -> LetterPairs
     let X = pair_of(a.X, b.X);
     let Y = pair_of(a.Y, b.Y);
     let t = pair_of(a.t, b.t);
-    LetterPairs { u, h, X, Y, t }
+    LetterSet { u, h, X, Y, t }
 }
 
-pub fn term_pairs(a: Terms, b: Terms) -> TermPairs
+pub fn term_pairs(a: Terms, b: Terms) -> TermSet<Pair>
     ensures { (terms_of false result ≡ step_terms a) × (terms_of true result ≡ step_terms b) }
 {
     let c = pair_of(a.c, b.c);
@@ -71,7 +54,7 @@ pub fn term_pairs(a: Terms, b: Terms) -> TermPairs
     let v = pair_of(a.v, b.v);
     let y = pair_of(a.y, b.y);
     let sum = pair_of(a.sum, b.sum);
-    TermPairs { c, p, v, y, sum }
+    TermSet { c, p, v, y, sum }
 }
 
 pub fn side(up: bool, b: Pair) -> Scaled
@@ -84,7 +67,7 @@ pub fn side(up: bool, b: Pair) -> Scaled
     narrowed(b.lower)
 }
 
-pub fn side_terms(up: bool, s: TermPairs) -> Terms
+pub fn side_terms(up: bool, s: TermSet<Pair>) -> Terms
     requires { TermsIn largest_exponent (terms_of up s) }
     ensures { result ≡ held_terms (terms_of up s) }
 {

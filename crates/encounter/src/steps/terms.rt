@@ -7,11 +7,12 @@ ghost use Rattle.exact.specs.Steps.{next_c, next, next_d};
 ghost use Rattle.encounter.specs.Private.Loops.{narrow, side_of, letters_of, terms_of, IsReciprocal};
 
 use crate::arithmetic::wide::{Reciprocal, Wide, narrowed, over, product, reciprocal_of, widen};
-use crate::steps::sides::{LetterPairs, Pair, TermPairs, halves, overs, overs_by, products, sums};
+use crate::steps::numbers::{LetterSet, TermSet};
+use crate::steps::sides::{Pair, halves, overs, overs_by, products, sums};
 use exact::Scaled;
 
 // c(n + 1), where hv is h × v(n).
-fn next_term(l: LetterPairs, s: TermPairs, hv: Pair, n: u64) -> Pair
+fn next_term(l: LetterSet<Pair>, s: TermSet<Pair>, hv: Pair, n: u64) -> Pair
     requires { (n < largest_order) × ((up : Bool) → LettersIn (letters_of up l)) × ((up : Bool) → TermsIn largest_exponent (terms_of up s)) × ((up : Bool) → side_of up hv ≡ (rounded up 32).product (side_of up l.h) (side_of up s.v)) }
     ensures { (up : Bool) → side_of up result ≡ next_c (rounded up 32) (letters_of up l) n (terms_of up s) }
 {
@@ -59,7 +60,7 @@ fn next_v_and_y(c: Pair, hv: Pair, hy: Pair, by: Reciprocal) -> Weighted
 }
 
 // The terms of index n + 1 from those of index n.
-pub fn next_terms(l: LetterPairs, s: TermPairs, n: u64) -> TermPairs
+pub fn next_terms(l: LetterSet<Pair>, s: TermSet<Pair>, n: u64) -> TermSet<Pair>
     requires { (n < largest_order) × ((up : Bool) → LettersIn (letters_of up l)) × ((up : Bool) → TermsIn largest_exponent (terms_of up s)) }
     ensures { (up : Bool) → terms_of up result ≡ next (rounded up 32) (letters_of up l) n (terms_of up s) }
 {
@@ -74,7 +75,7 @@ pub fn next_terms(l: LetterPairs, s: TermPairs, n: u64) -> TermPairs
     let v = w.v;
     let y = w.y;
     let sum = sums(s.sum, c);
-    TermPairs { c, p, v, y, sum }
+    TermSet { c, p, v, y, sum }
 }
 
 // d(n + 1) from d(n).
