@@ -5,5 +5,7 @@ pub mod Rounds
 pub mod SideNumbers
 pub mod Divisors
 pub mod Tracing
+pub mod TermRanges
+pub mod BothSides
 pub mod NextLosses
 pub mod Counting

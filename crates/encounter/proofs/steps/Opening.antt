@@ -22,18 +22,18 @@ use Rattle.encounter.specs.declared.steps.numbers.TermSet.{TermSet}
 use Rattle.encounter.specs.declared.calls.opening.OpenSide.{OpenSide}
 use Rattle.encounter.specs.declared.calls.opening.OpenSides.{OpenSides}
 use Rattle.encounter.specs.Session.{state, no_object, side}
-use Rattle.encounter.specs.Private.Held.{held_letters, step_letters, held_terms, way_letters, way_terms, HasT}
+use Rattle.encounter.specs.Private.Held.{held_letters, step_letters, held_terms, set_letters, set_terms, HasT}
 use Rattle.encounter.proofs.steps.SideNumbers.{terms_of_side}
 
 -- ---- the letters and c(0), as they are formed with their losses
 
 module _ (up : Bool) (E : Encounter) where
   -- their numbers are the side's
-  letters_are : {l : LetterSet Traced} → way_letters l ≡ traced_letters up E → letter_numbers (way_letters l) ≡ side_letters up E
+  letters_are : {l : LetterSet Traced} → set_letters l ≡ traced_letters up E → letter_numbers (set_letters l) ≡ side_letters up E
   letters_are e = ap letter_numbers e ∙ letters_number up E
 
   -- with the ranges of these
-  pub letters_fine : {l : LetterSet Traced} → Bounds E → way_letters l ≡ traced_letters up E → (way_letters l ≡ traced_letters up E) × LettersIn (letter_numbers (way_letters l))
+  pub letters_fine : {l : LetterSet Traced} → Bounds E → set_letters l ≡ traced_letters up E → (set_letters l ≡ traced_letters up E) × LettersIn (letter_numbers (set_letters l))
   unfolding side_letters
   letters_fine f e = (e, subst LettersIn (sym (letters_are e)) (letters_in (in_range up) f))
 
@@ -42,7 +42,7 @@ module _ (up : Bool) (E : Encounter) where
   start_fine f e = rw (e, start_number up E) (start_in (in_range up) f)
 
 -- both t, as the exponential takes them
-pub t_are : (E : Encounter) {lo hi : LetterSet Traced} → Accepted E → way_letters lo ≡ traced_letters false E → way_letters hi ≡ traced_letters true E → HasT E lo.t.number hi.t.number
+pub t_are : (E : Encounter) {lo hi : LetterSet Traced} → Accepted E → set_letters lo ≡ traced_letters false E → set_letters hi ≡ traced_letters true E → HasT E lo.t.number hi.t.number
 t_are E a el eh = (a, ap (λ (l : LettersOf Scaled). l.t) (letters_are false E el), ap (λ (l : LettersOf Scaled). l.t) (letters_are true E eh))
 
 -- ---- a side at order 1
@@ -52,15 +52,15 @@ abbrev pub Opened : Bool → Encounter → OpenSide → Type 0
 Opened up E x = (x.side ≡ side up E 1) × (x.losses.term ≡ term_lost up E 0) × (x.losses.operand ≡ operand_lost (traced_letters up E) (traced_terms up E 0))
 
 module _ (up : Bool) (E : Encounter) where
-  terms_at : {l : LetterSet Traced} {c : Traced} {s : TermSet Traced} → way_letters l ≡ traced_letters up E → c ≡ start (traced up 32) E → way_terms s ≡ first (traced up 32) (way_letters l) c
-      → way_terms s ≡ traced_terms up E 0
+  terms_at : {l : LetterSet Traced} {c : Traced} {s : TermSet Traced} → set_letters l ≡ traced_letters up E → c ≡ start (traced up 32) E → set_terms s ≡ first (traced up 32) (set_letters l) c
+      → set_terms s ≡ traced_terms up E 0
   unfolding traced_terms terms
   terms_at el ec es = es ∙ (λ i. first (traced up 32) (el i) (ec i))
 
   pub opens : {l : LetterSet Traced} {c : Traced} {s : TermSet Traced} {ln : Letters} {sn : Terms} {x : Scaled} {r : Losses}
-      → way_letters l ≡ traced_letters up E → x ≡ exponential_sum up E → c ≡ start (traced up 32) E → way_terms s ≡ first (traced up 32) (way_letters l) c
-      → ln ≡ held_letters (letter_numbers (way_letters l)) → sn ≡ held_terms (term_numbers (way_terms s))
-      → (r.term ≡ (way_terms s).c.lost) × (r.operand ≡ operand_lost (way_letters l) (way_terms s))
+      → set_letters l ≡ traced_letters up E → x ≡ exponential_sum up E → c ≡ start (traced up 32) E → set_terms s ≡ first (traced up 32) (set_letters l) c
+      → ln ≡ held_letters (letter_numbers (set_letters l)) → sn ≡ held_terms (term_numbers (set_terms s))
+      → (r.term ≡ (set_terms s).c.lost) × (r.operand ≡ operand_lost (set_letters l) (set_terms s))
       → Opened up E (record { side = record { letters = ln; exponential = x; terms = sn }; losses = r })
   unfolding side term_lost
   opens el ex ec es eln esn er =
@@ -79,7 +79,7 @@ pub numbers_fine : {x : LettersOf Scaled} {ln : Letters} → ln ≡ held_letters
 numbers_fine e i = rw e i
 
 -- from the upper letters
-module _ (E : Encounter) {l : LetterSet Traced} (e : way_letters l ≡ traced_letters true E) {ln : Letters} (eln : ln ≡ held_letters (letter_numbers (way_letters l))) where
+module _ (E : Encounter) {l : LetterSet Traced} (e : set_letters l ≡ traced_letters true E) {ln : Letters} (eln : ln ≡ held_letters (letter_numbers (set_letters l))) where
   numbers_are : step_letters ln ≡ side_letters true E
   numbers_are = ap step_letters eln ∙ letters_are true E e
 

@@ -43,8 +43,8 @@ module _ (up : Bool) (E : Encounter) (k : ℕ) {t r : Scaled} {w : PowersOf Scal
   unfolding side_powers powers next_power
   next_r_is = rw (er, ew, et)
 
-  next_powers : {s : Scaled} → s ≡ round up 32 (value w.sum ⊕ value r) → record { r = r; sum = s } ≡ side_powers up E (suc k)
-  unfolding side_powers powers next_power rounded
+  next_powers : {s : Scaled} → s ≡ (rounded up 32).sum w.sum r → record { r = r; sum = s } ≡ side_powers up E (suc k)
+  unfolding side_powers powers next_power
   next_powers es = rw (es, er, ew, et)
 
 -- ---- both sides at k
@@ -69,7 +69,7 @@ module _ {E : Encounter} {k : ℕ} {t : Pair} {w : PowerPairs} (h : PowersAt E k
 
   -- one round
   pub next_at : {r s : Pair} → ((up : Bool) → side_of up r ≡ next_r up k (side_of up w.r) (side_of up t))
-      → ((up : Bool) → side_of up s ≡ round up 32 (value (side_of up w.sum) ⊕ value (side_of up r)))
+      → ((up : Bool) → side_of up s ≡ (rounded up 32).sum (side_of up w.sum) (side_of up r))
       → PowersAt E (suc k) t (record { r = r; sum = s })
   next_at er es = record { fine = h.fine; t_is = h.t_is; powers_are = λ up. next_powers up E k (h.t_is up) (h.powers_are up) (er up) (es up) }
 

@@ -33,12 +33,12 @@ held_terms s = record { c = s.c; p = s.p; v = s.v; y = s.y; sum = s.sum }
 abbrev pub step_terms : Terms → TermsOf Scaled
 step_terms s = record { c = s.c; p = s.p; v = s.v; y = s.y; sum = s.sum }
 
--- the same, each with whether something was lost on its way
-abbrev pub way_letters : LetterSet Traced → LettersOf Traced
-way_letters l = record { u = l.u; h = l.h; X = l.X; Y = l.Y; t = l.t }
+-- letters and terms over any numbers
+abbrev pub set_letters : {S : Type 0} → LetterSet S → LettersOf S
+set_letters l = record { u = l.u; h = l.h; X = l.X; Y = l.Y; t = l.t }
 
-abbrev pub way_terms : TermSet Traced → TermsOf Traced
-way_terms s = record { c = s.c; p = s.p; v = s.v; y = s.y; sum = s.sum }
+abbrev pub set_terms : {S : Type 0} → TermSet S → TermsOf S
+set_terms s = record { c = s.c; p = s.p; v = s.v; y = s.y; sum = s.sum }
 
 -- one index on, from letters l and terms s of index n on whose way nothing was lost: what was lost on the way to the term, and to what the next one is formed of
 pub record CleanLosses (up : Bool) (l : LettersOf Scaled) (s : TermsOf Scaled) (n : ℕ) (r : Losses) : Type 0 where

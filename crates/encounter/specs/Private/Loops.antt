@@ -23,6 +23,9 @@ use Rattle.encounter.specs.declared.steps.sides.PowerPairs.{PowerPairs}
 abbrev pub narrow : Wide → Scaled
 narrow x = scaled x.m x.e
 
+abbrev pub wide : Scaled → Wide
+wide x = record { m = x.m; e = x.e }
+
 -- h, or the whole number above it where a rest is left and the direction is up
 unfoldable pub whole_part : Bool → ℕ → Bool → ℕ
 whole_part up h s = h + cond (up && s) 1 0

@@ -5,7 +5,7 @@ ghost use Rattle.exact.specs.Refusals.{Accepted};
 ghost use Rattle.exact.specs.Steps.{exponential_sum, r256 as r256_of, M as MOf};
 ghost use Rattle.exact.specs.Losses.{traced_letters, traced_terms, term_lost, operand_lost, either_lost, lossless};
 ghost use Rattle.encounter.specs.Session.{side, state, no_object};
-ghost use Rattle.encounter.specs.Private.Held.{way_letters};
+ghost use Rattle.encounter.specs.Private.Held.{set_letters};
 
 use crate::state::{Session, Side};
 use crate::steps::letters::start;
@@ -27,7 +27,7 @@ struct OpenSide {
 
 // From its letters and its exponential sum.
 fn open_side(up: bool, E: Encounter, l: LetterSet<Traced>, exponential: Scaled) -> OpenSide
-    requires { (Bounds E) × (way_letters l ≡ traced_letters up E) × (exponential ≡ exponential_sum up E) }
+    requires { (Bounds E) × (set_letters l ≡ traced_letters up E) × (exponential ≡ exponential_sum up E) }
     ensures { (result.side ≡ side up E 1) × (result.losses.term ≡ term_lost up E 0) × (result.losses.operand ≡ operand_lost (traced_letters up E) (traced_terms up E 0)) }
 {
     let s = first_terms(up, l, start(up, E));
@@ -55,7 +55,7 @@ struct OpenSides {
 
 // From both sides' letters.
 fn open_sides(E: Encounter, below: LetterSet<Traced>, above: LetterSet<Traced>) -> OpenSides
-    requires { (Accepted E) × (way_letters below ≡ traced_letters false E) × (way_letters above ≡ traced_letters true E) }
+    requires { (Accepted E) × (set_letters below ≡ traced_letters false E) × (set_letters above ≡ traced_letters true E) }
     ensures { (result.lower ≡ side false E 1) × (result.upper ≡ side true E 1) × (result.losses.term ≡ either_lost E 0) × (result.losses.operand ≡ not (lossless E 1)) × (result.r256 ≡ r256_of E) }
 {
     let sums = exponential_sums(below.t.number, above.t.number);
@@ -75,7 +75,7 @@ fn open_sides(E: Encounter, below: LetterSet<Traced>, above: LetterSet<Traced>) 
 
 // From both sides' letters and M. The upper letters and M were formed for tests 7 and 11.
 pub fn opened(E: Encounter, below: LetterSet<Traced>, above: LetterSet<Traced>, M: Scaled) -> Session
-    requires { (Accepted E) × (way_letters below ≡ traced_letters false E) × (way_letters above ≡ traced_letters true E) × (M ≡ MOf E) }
+    requires { (Accepted E) × (set_letters below ≡ traced_letters false E) × (set_letters above ≡ traced_letters true E) × (M ≡ MOf E) }
     ensures { result ≡ state (no_object E) 1 }
 {
     let sides = open_sides(E, below, above);

@@ -7,7 +7,7 @@ ghost use Rattle.exact.specs.Losses.{letter_numbers, traced_letters};
 ghost use Rattle.exact.specs.Private.Ranges.{InRange, Bounds, LettersIn};
 ghost use Rattle.exact.specs.Series.{u, b, zx, zy, g};
 ghost use Rattle.exact.specs.Steps.{bound as bound_of, start as start_of};
-ghost use Rattle.encounter.specs.Private.Held.{step_letters, way_letters};
+ghost use Rattle.encounter.specs.Private.Held.{step_letters, set_letters};
 
 use crate::arithmetic::scaled;
 use crate::arithmetic::scaled::{halved, ratio};
@@ -96,7 +96,7 @@ fn fractions(up: bool, E: Encounter) -> Parts
 
 pub fn letters(up: bool, E: Encounter) -> LetterSet<Traced>
     requires { Bounds E }
-    ensures { (way_letters result ≡ traced_letters up E) × (LettersIn (letter_numbers (way_letters result))) }
+    ensures { (set_letters result ≡ traced_letters up E) × (LettersIn (letter_numbers (set_letters result))) }
 {
     let f = fractions(up, E);
     let u = f.u;

@@ -7,7 +7,7 @@ ghost use Rattle.encounter.specs.Private.Loops.{narrow, letters_of, terms_of};
 use crate::arithmetic::wide::{Wide, narrowed, widen};
 use crate::state::{Session, Terms};
 use crate::steps::numbers::{LetterSet, TermSet};
-use crate::steps::sides::{Pair, letter_pairs, side_terms, term_pairs};
+use crate::steps::sides::{BothSides, Pair, letter_pairs, side_terms, term_pairs};
 use crate::steps::terms::{next_tail, next_terms};
 use exact::Scaled;
 
@@ -48,7 +48,7 @@ pub fn advance(s: Session, count: u32) -> Progress
     let first = (s.N - 1) as u64;
     let limit = (s.N + count - 1) as u64;
     for n in first..limit {
-        t = next_terms(l, t, n);
+        t = next_terms(BothSides, l, t, n);
         d = next_tail(M, d, n + 1);
     }
     Progress {

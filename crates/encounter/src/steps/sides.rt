@@ -5,13 +5,14 @@ ghost use Rattle.exact.specs.Scaled.{value, half};
 ghost use Rattle.exact.specs.Private.Ranges.{largest_exponent, InRange, TermsIn};
 ghost use Rattle.exact.specs.Private.Round.{round};
 ghost use Rattle.encounter.specs.Private.Held.{step_letters, step_terms, held_terms};
+ghost use Rattle.encounter.specs.Private.Operations.{both, both_keeps, PairIn};
 ghost use Rattle.encounter.specs.Private.Loops.{narrow, side_of, letters_of, terms_of, IsReciprocal};
 
 use crate::arithmetic::wide::{
-    Reciprocal, Rounded, Wide, halved, narrowed, over, over_by, product, sum, widen,
+    Reciprocal, Rounded, Wide, halved, narrowed, over, over_by, product, reciprocal_of, sum, widen,
 };
 use crate::state::{Letters, Terms};
-use crate::steps::numbers::{LetterSet, TermSet};
+use crate::steps::numbers::{LetterSet, Operations, TermSet};
 use exact::Scaled;
 
 #[derive(Clone, Copy)]
@@ -79,56 +80,61 @@ pub fn side_terms(up: bool, s: TermSet<Pair>) -> Terms
     Terms { c, p, v, y, sum }
 }
 
-// Both sides' results, without their losses.
-fn numbers(below: Rounded, above: Rounded) -> Pair
-    ensures { (side_of false result ≡ narrow below.number) × (side_of true result ≡ narrow above.number) }
-{
-    let lower = below.number;
-    let upper = above.number;
-    Pair { lower, upper }
-}
+// Both sides' operations: D on the lower side, U on the upper.
+#[derive(Clone, Copy)]
+pub struct BothSides;
 
-pub fn products(a: Pair, b: Pair) -> Pair
-    requires { (up : Bool) → (InRange 32 (2 ^ 28) (side_of up a)) × (InRange 32 (2 ^ 28) (side_of up b)) }
-    ensures { (up : Bool) → side_of up result ≡ round up 32 (value (side_of up a) ⊗ value (side_of up b)) }
-{
-    let below = product(false, a.lower, b.lower);
-    let above = product(true, a.upper, b.upper);
-    numbers(below, above)
-}
+impl Operations for BothSides {
+    type Number = Pair;
 
-pub fn sums(a: Pair, b: Pair) -> Pair
-    requires { (up : Bool) → (InRange 32 (2 ^ 28) (side_of up a)) × (InRange 32 (2 ^ 28) (side_of up b)) }
-    ensures { (up : Bool) → side_of up result ≡ round up 32 (value (side_of up a) ⊕ value (side_of up b)) }
-{
-    let below = sum(false, a.lower, b.lower);
-    let above = sum(true, a.upper, b.upper);
-    numbers(below, above)
-}
+    type Divisor = Reciprocal;
 
-pub fn overs(a: Pair, k: u64) -> Pair
-    requires { ((up : Bool) → InRange 32 (2 ^ 28) (side_of up a)) × (0 < k) × (k < 2 ^ 32) }
-    ensures { (up : Bool) → side_of up result ≡ round up 32 (value (side_of up a) ÷ k) }
-{
-    let below = over(false, a.lower, k);
-    let above = over(true, a.upper, k);
-    numbers(below, above)
-}
+    ghost arithmetic = { λ x. both };
 
-pub fn overs_by(a: Pair, by: Reciprocal) -> Pair
-    requires { ((up : Bool) → InRange 32 (2 ^ 28) (side_of up a)) × IsReciprocal by }
-    ensures { (up : Bool) → side_of up result ≡ round up 32 (value (side_of up a) ÷ by.k) }
-{
-    let below = over_by(false, a.lower, by);
-    let above = over_by(true, a.upper, by);
-    numbers(below, above)
-}
+    ghost within = { PairIn };
 
-pub fn halves(a: Pair) -> Pair
-    requires { (up : Bool) → InRange 32 (2 ^ 28) (side_of up a) }
-    ensures { (up : Bool) → side_of up result ≡ half (side_of up a) }
-{
-    let lower = halved(a.lower);
-    let upper = halved(a.upper);
-    Pair { lower, upper }
+    ghost whole = { λ by. by.k };
+
+    ghost divides = { IsReciprocal };
+
+    ghost keeps = { λ x. both_keeps };
+
+    fn product(self, a: Pair, b: Pair) -> Pair {
+        Pair {
+            lower: product(false, a.lower, b.lower).number,
+            upper: product(true, a.upper, b.upper).number,
+        }
+    }
+
+    fn sum(self, a: Pair, b: Pair) -> Pair {
+        Pair {
+            lower: sum(false, a.lower, b.lower).number,
+            upper: sum(true, a.upper, b.upper).number,
+        }
+    }
+
+    fn half(self, a: Pair) -> Pair {
+        Pair {
+            lower: halved(a.lower),
+            upper: halved(a.upper),
+        }
+    }
+
+    fn over(self, a: Pair, k: u64) -> Pair {
+        Pair {
+            lower: over(false, a.lower, k).number,
+            upper: over(true, a.upper, k).number,
+        }
+    }
+
+    fn divisor(self, k: u64) -> Reciprocal {
+        reciprocal_of(k)
+    }
+
+    fn over_by(self, a: Pair, by: Reciprocal) -> Pair {
+        Pair {
+            lower: over_by(false, a.lower, by).number,
+            upper: over_by(true, a.upper, by).number,
+        }
+    }
 }

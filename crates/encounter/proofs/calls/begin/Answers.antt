@@ -18,7 +18,7 @@ use Rattle.exact.proofs.Exponents.{in_range}
 use Rattle.exact.proofs.Losses.{letters_number}
 use Rattle.encounter.specs.declared.state.Letters.{Letters}
 use Rattle.encounter.specs.declared.steps.numbers.LetterSet.{LetterSet}
-use Rattle.encounter.specs.Private.Held.{held_letters, step_letters, way_letters}
+use Rattle.encounter.specs.Private.Held.{held_letters, step_letters, set_letters}
 use Rattle.encounter.proofs.steps.Opening.{numbers_fine, bound_is}
 use Rattle.encounter.proofs.calls.Answering.{begin_early, begin_7, begin_11, begin_taken, call_reached, passed_bounds, accepted}
 use Rattle.encounter.specs.Calls.{begins}
@@ -26,12 +26,12 @@ use borrow.Author.Rules.{rules}
 use Rattle.encounter.proofs.calls.begin.Goals as goal
 
 -- the upper t, without what was lost on its way
-upper-t : (E : Encounter) {l : LetterSet Traced} → way_letters l ≡ traced_letters true E → l.t.number ≡ (side_letters true E).t
+upper-t : (E : Encounter) {l : LetterSet Traced} → set_letters l ≡ traced_letters true E → l.t.number ≡ (side_letters true E).t
 upper-t E e = ap (λ (l : LettersOf Traced). l.t.number) e ∙ ap (λ (l : LettersOf Scaled). l.t) (letters_number true E)
 
 -- tests 7 and 11, as the code makes them
 module _ (E : Encounter) {r x : Bool} (k : r ≡ x) where
-  test-7 : {l : LetterSet Traced} → way_letters l ≡ traced_letters true E → r ≡ at_most (value l.t.number) (whole largest_t) → refuses_7 E ≡ not x
+  test-7 : {l : LetterSet Traced} → set_letters l ≡ traced_letters true E → r ≡ at_most (value l.t.number) (whole largest_t) → refuses_7 E ≡ not x
   unfolding refuses_7 above
   test-7 {l} e g =
       let same : at_most (value l.t.number) (whole largest_t) ≡ at_most (value (side_letters true E).t) (whole largest_t) = rw (upper-t E e) in
@@ -53,8 +53,8 @@ record Formed (E : Encounter) (m : Scaled) : Type 0 where
   M_is : m ≡ M E
 
 formed : (E : Encounter) {l : LetterSet Traced} {ln : Letters} {m : Scaled} {r : Bool} {n : ℕ} → n ≡ tests_3_to_6 E 0 → n ≤ 0
-    → way_letters l ≡ traced_letters true E → r ≡ at_most (value l.t.number) (whole largest_t) → r ≡ true
-    → ln ≡ held_letters (letter_numbers (way_letters l)) → m ≡ bound (rounded true 32) (step_letters ln) → Formed E m
+    → set_letters l ≡ traced_letters true E → r ≡ at_most (value l.t.number) (whole largest_t) → r ≡ true
+    → ln ≡ held_letters (letter_numbers (set_letters l)) → m ≡ bound (rounded true 32) (step_letters ln) → Formed E m
 formed E en nl el et t eln em = record { inputs = passes E en nl; t-passes = test-7 E t el et; M_is = bound_is E el eln em }
 
 pub returns-then-refusal-gt0 : goal.returns-then-refusal-gt0

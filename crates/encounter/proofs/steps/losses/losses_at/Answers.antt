@@ -3,7 +3,7 @@ use mathlib.Core.Bool.{Bool, ◌||◌, or_assoc}
 use Rattle.exact.specs.declared.Traced.{Traced}
 use Rattle.exact.specs.Losses.{operand_lost}
 use Rattle.exact.specs.Steps.{LettersOf, TermsOf}
-use Rattle.encounter.specs.Private.Held.{way_letters, way_terms}
+use Rattle.encounter.specs.Private.Held.{set_letters, set_terms}
 use Rattle.encounter.proofs.steps.losses.losses_at.Goals as goal
 
 -- seven tests, put together from the last and from the first
@@ -33,5 +33,5 @@ returns c = (
     c.either.ensures,
     c.either-last.ensures,
   )
-      (together (way_letters c.args.l) (way_terms c.args.s)),
+      (together (set_letters c.args.l) (set_terms c.args.s)),
 )

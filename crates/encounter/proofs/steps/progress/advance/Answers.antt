@@ -6,6 +6,7 @@ use lib.Dec.{lit≤}
 use Rattle.exact.specs.Numbers.{largest_order}
 use Rattle.exact.proofs.Ranges.{widen}
 use Rattle.encounter.specs.Private.Held.{progress}
+use Rattle.encounter.proofs.steps.BothSides.{letters_both, terms_both, next_side}
 use Rattle.encounter.proofs.steps.Progressing.{start_holds, letters_held, bound_held, terms_held, tail_held, next_holds, holds_progress}
 use Rattle.encounter.proofs.steps.progress.advance.Goals as goal
 
@@ -19,7 +20,7 @@ below c = omega (arith, c.requires.1, c.requires.0.low, c.loop-n-test.true)
 pub next_terms-t-requires : goal.next_terms-t-requires
 next_terms-t-requires c =
     let h = c.loop-n.invariant in
-    (below c, letters_held c.requires.0 h, terms_held c.requires.0 h (below c))
+    (below c, letters_both (letters_held c.requires.0 h), terms_both (terms_held c.requires.0 h (below c)))
 
 pub next_tail-d-requires : goal.next_tail-d-requires
 next_tail-d-requires c =
@@ -28,7 +29,9 @@ next_tail-d-requires c =
     (omega (arith, n), bound_held c.requires.0 h, tail_held c.requires.0 h n)
 
 pub loop-n-preserved : goal.loop-n-preserved
-loop-n-preserved c = next_holds c.args.s.encounter c.loop-n.n c.loop-n.invariant c.next_terms-t.ensures c.next_tail-d.ensures
+loop-n-preserved c =
+    let l = c.loop-n in
+    next_holds c.args.s.encounter l.n l.invariant (next_side _ l.n l.t c.next_terms-t.ensures) c.next_tail-d.ensures
 
 -- after it
 ended : (c : goal.After-loop-n) → c.loop-n.n ≡ c.args.s.N + c.args.count - 1
