@@ -1,5 +1,5 @@
 -- What both sides' operations are on each side.
-use mathlib.Core.Path.{◌≡◌, refl, ap}
+use mathlib.Core.Path.{◌≡◌, ap}
 use mathlib.Core.Bool.{Bool, true, false}
 use Prim.Native.Nat.{ℕ}
 use Rattle.exact.specs.declared.Scaled.{Scaled}

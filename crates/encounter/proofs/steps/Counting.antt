@@ -1,11 +1,9 @@
 -- The count of exact terms from index to index: one term more where nothing was lost before, and all others together where something was.
 use mathlib.Core.Path.{◌≡◌, refl, sym, ◌∙◌, ap}
-use mathlib.Core.Bool.{Bool, true, false, cond, ◌||◌, ◌&&◌, true≢false, false≢true}
+use mathlib.Core.Bool.{Bool, true, false, cond, ◌||◌}
 use mathlib.Core.Logic.{◌⊎◌, inl, inr}
 use Prim.Native.Nat.{ℕ, suc, ◌+◌, ◌-◌, ◌≤◌, ◌<◌}
 use native.Mathlib.Omega.{arith}
-use borrow.Author.Tests.{ltb-true, ltb-false}
-use lib.Dec.{ltb}
 use Rattle.exact.specs.declared.Encounter.{Encounter}
 use Rattle.exact.specs.Arithmetic.{rounded}
 use Rattle.exact.specs.Losses.{either_lost, exact_terms, lossless}

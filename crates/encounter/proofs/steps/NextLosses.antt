@@ -6,7 +6,7 @@ use borrow.Author.Tests.{not-true}
 use Rattle.exact.specs.declared.Encounter.{Encounter}
 use Rattle.exact.specs.declared.Traced.{Traced}
 use Rattle.exact.specs.Arithmetic.{rounded, rounding, traced}
-use Rattle.exact.specs.Losses.{letter_numbers, term_numbers, traced_letters, traced_terms, term_lost, operand_lost, either_lost, lossless}
+use Rattle.exact.specs.Losses.{term_numbers, traced_letters, traced_terms, term_lost, operand_lost, either_lost, lossless}
 use Rattle.exact.specs.Private.Ranges.{largest_exponent, LettersAll, TermsAll, LettersIn, TermsIn}
 use Rattle.exact.specs.Private.Clean.{clean_letters, clean_terms}
 use Rattle.exact.specs.Steps.{LettersOf, TermsOf, next_c, next_p, next_v, next_y, next, terms, side_letters, side_terms}

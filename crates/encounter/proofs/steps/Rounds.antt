@@ -6,12 +6,10 @@ use native.Mathlib.Omega.{arith}
 use lib.Dec.{lit≤}
 use Rattle.exact.specs.declared.Encounter.{Encounter}
 use Rattle.exact.specs.declared.Scaled.{Scaled}
-use Rattle.exact.specs.Fraction.{◌⊕◌}
 use Rattle.exact.specs.Numbers.{exponential_cut}
 use Rattle.exact.specs.Refusals.{Accepted}
-use Rattle.exact.specs.Scaled.{one, value}
+use Rattle.exact.specs.Scaled.{one}
 use Rattle.exact.specs.Private.Ranges.{largest_exponent, InRange, PowersIn}
-use Rattle.exact.specs.Private.Round.{round}
 use Rattle.exact.specs.Arithmetic.{rounded}
 use Rattle.exact.specs.Steps.{PowersOf, next_power, powers, side_letters, side_powers}
 use Rattle.exact.proofs.Accepted.{facts}

@@ -1,6 +1,6 @@
 -- The ranges of the numbers that a term is formed through, over any arithmetic that keeps them (exact/proofs/Growth.antt).
 use mathlib.Core.Path.{◌≡◌}
-use Prim.Native.Nat.{ℕ, ◌+◌, ◌^◌, ◌≤◌, ◌<◌}
+use Prim.Native.Nat.{ℕ, ◌+◌, ◌^◌, ◌<◌}
 use native.Mathlib.Omega.{arith}
 use lib.Dec.{lit≤}
 use Rattle.exact.specs.Arithmetic.{Arithmetic}

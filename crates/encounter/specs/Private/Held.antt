@@ -4,7 +4,6 @@ use Rattle.std.specs.Prelude.{◌≡◌, Bool, true, false, cond, ℕ, suc, ◌�
 use Rattle.exact.specs.declared.Encounter.{Encounter}
 use Rattle.exact.specs.declared.Scaled.{Scaled}
 use Rattle.exact.specs.Numbers.{largest_order}
-use Rattle.exact.specs.declared.Traced.{Traced}
 use Rattle.exact.specs.Arithmetic.{traced}
 use Rattle.exact.specs.Steps.{LettersOf, TermsOf, next, side_letters, side_terms, d}
 use Rattle.exact.specs.Losses.{operand_lost, exact_terms, lossless}

@@ -10,8 +10,7 @@ ghost use Rattle.encounter.specs.Private.Held.{set_letters};
 use crate::state::{Session, Side};
 use crate::steps::letters::start;
 use crate::steps::losses::{
-    Losses, either_side, first_terms, letter_numbers, losses_at, none_lost,
-    term_numbers,
+    Losses, either_side, first_terms, letter_numbers, losses_at, none_lost, term_numbers,
 };
 use crate::steps::numbers::LetterSet;
 use crate::steps::powers::exponential_sums;
@@ -74,7 +73,12 @@ fn open_sides(E: Encounter, below: LetterSet<Traced>, above: LetterSet<Traced>) 
 }
 
 // From both sides' letters and M. The upper letters and M were formed for tests 7 and 11.
-pub fn opened(E: Encounter, below: LetterSet<Traced>, above: LetterSet<Traced>, M: Scaled) -> Session
+pub fn opened(
+    E: Encounter,
+    below: LetterSet<Traced>,
+    above: LetterSet<Traced>,
+    M: Scaled,
+) -> Session
     requires { (Accepted E) × (set_letters below ≡ traced_letters false E) × (set_letters above ≡ traced_letters true E) × (M ≡ MOf E) }
     ensures { result ≡ state (no_object E) 1 }
 {

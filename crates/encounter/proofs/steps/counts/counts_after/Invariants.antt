@@ -1,5 +1,5 @@
 use mathlib.Core.Path.{◌≡◌}
-use Rattle.encounter.specs.Private.Held.{counting, Begun}
+use Rattle.encounter.specs.Private.Held.{counting}
 use Rattle.encounter.proofs.steps.counts.counts_after.Given as goal
 
 abbrev pub invariant-loop-n : goal.invariant-loop-n

@@ -1,1 +1,0 @@
-use Rattle.encounter.proofs.steps.powers.rounds.Goals as goal

@@ -1,4 +1,3 @@
-use Prim.Native.Nat.{zero}
 use Rattle.exact.specs.declared.Encounter.{Encounter}
 use Rattle.encounter.specs.Private.Loops.{PowersAt}
 use Rattle.encounter.proofs.steps.powers.rounds.Given as goal

@@ -1,4 +1,3 @@
-use native.Mathlib.Omega.{arith}
 use lib.Dec.{lit≤}
 use Rattle.exact.specs.Steps.{next_c}
 use Rattle.encounter.proofs.steps.Divisors.{divisor, divisor_low, divisor_max}
@@ -34,7 +33,7 @@ over-requires g c =
     let K = g.met.A.Operations.keeps c.args.x in
     let (n, i, k, e) = c.requires in
     rw (c.sum-all.ensures, c.product-2.ensures, c.sum-b.ensures, c.product.ensures, c.sum-a.ensures, c.half.ensures, e)
-        (K.more (lit≤ tt) (four K i k), divisor_low c.args.n, divisor_max c.args.n n)
+    (K.more (lit≤ tt) (four K i k), divisor_low c.args.n, divisor_max c.args.n n)
 
 pub returns : goal.returns
 unfolding next_c

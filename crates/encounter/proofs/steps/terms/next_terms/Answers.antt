@@ -30,7 +30,7 @@ product-p-requires g c =
     let K = g.met.A.Operations.keeps c.args.x in
     let (n, i, k) = c.requires in
     rw (c.sum.ensures, c.over_by.ensures, c.divisor-by.ensures.0)
-        (K.more (lit≤ tt) i.u, plus_over_fine K n (next_in K i k n c.next_term-c.ensures) (K.more (lit≤ tt) k.p))
+    (K.more (lit≤ tt) i.u, plus_over_fine K n (next_in K i k n c.next_term-c.ensures) (K.more (lit≤ tt) k.p))
 
 pub over_by-requires-2 : goal.over_by-requires-2
 over_by-requires-2 g c =
@@ -42,7 +42,7 @@ sum-v-requires g c =
     let K = g.met.A.Operations.keeps c.args.x in
     let (n, i, k) = c.requires in
     rw (c.over_by-2.ensures, c.product-hv.ensures, c.divisor-by.ensures.0)
-        (K.more (lit≤ tt) (next_in K i k n c.next_term-c.ensures), over_fine K n (times K i.h k.v))
+    (K.more (lit≤ tt) (next_in K i k n c.next_term-c.ensures), over_fine K n (times K i.h k.v))
 
 pub over_by-requires-3 : goal.over_by-requires-3
 over_by-requires-3 g c =
@@ -54,7 +54,7 @@ sum-y-requires g c =
     let K = g.met.A.Operations.keeps c.args.x in
     let (n, i, k) = c.requires in
     rw (c.over_by-3.ensures, c.product-hy.ensures, c.sum-v.ensures, c.over_by-2.ensures, c.product-hv.ensures, c.divisor-by.ensures.0)
-        (plus_over_fine K n (next_in K i k n c.next_term-c.ensures) (times K i.h k.v), over_fine K n (times K i.h k.y))
+    (plus_over_fine K n (next_in K i k n c.next_term-c.ensures) (times K i.h k.v), over_fine K n (times K i.h k.y))
 
 pub sum-requires-2 : goal.sum-requires-2
 sum-requires-2 g c =
