@@ -1,6 +1,5 @@
 pub mod Opening
 pub mod Progressing
-pub mod Pairs
 pub mod Rounds
 pub mod SideNumbers
 pub mod Divisors

@@ -2,6 +2,7 @@
 use mathlib.Core.Path.{◌≡◌, sym, ◌∙◌, ap, subst}
 use mathlib.Core.Bool.{Bool, true, false, cond, not, ◌||◌, not-not}
 use Prim.Native.Nat.{ℕ}
+use Rattle.std.specs.Int.{from_bool}
 use Rattle.exact.specs.declared.Scaled.{Scaled}
 use Rattle.exact.specs.declared.Traced.{Traced}
 use Rattle.exact.specs.Arithmetic.{rounded, traced}
@@ -19,8 +20,6 @@ use Rattle.encounter.specs.declared.state.Terms.{Terms}
 use Rattle.encounter.specs.declared.steps.losses.Losses.{Losses}
 use Rattle.encounter.specs.declared.steps.numbers.LetterSet.{LetterSet}
 use Rattle.encounter.specs.declared.steps.numbers.TermSet.{TermSet}
-use Rattle.encounter.specs.declared.calls.opening.OpenSide.{OpenSide}
-use Rattle.encounter.specs.declared.calls.opening.OpenSides.{OpenSides}
 use Rattle.encounter.specs.Session.{state, no_object, side}
 use Rattle.encounter.specs.Private.Held.{held_letters, step_letters, held_terms, set_letters, set_terms, HasT}
 use Rattle.encounter.proofs.steps.SideNumbers.{terms_of_side}
@@ -48,8 +47,8 @@ t_are E a el eh = (a, ap (λ (l : LettersOf Scaled). l.t) (letters_are false E e
 -- ---- a side at order 1
 
 -- x is the side, with its losses
-abbrev pub Opened : Bool → Encounter → OpenSide → Type 0
-Opened up E x = (x.side ≡ side up E 1) × (x.losses.term ≡ term_lost up E 0) × (x.losses.operand ≡ operand_lost (traced_letters up E) (traced_terms up E 0))
+abbrev pub Opened : Bool → Encounter → Side → Losses → Type 0
+Opened up E x r = (x ≡ side up E 1) × (r.term ≡ term_lost up E 0) × (r.operand ≡ operand_lost (traced_letters up E) (traced_terms up E 0))
 
 module _ (up : Bool) (E : Encounter) where
   terms_at : {l : LetterSet Traced} {c : Traced} {s : TermSet Traced} → set_letters l ≡ traced_letters up E → c ≡ start (traced up 32) E → set_terms s ≡ first (traced up 32) (set_letters l) c
@@ -61,7 +60,7 @@ module _ (up : Bool) (E : Encounter) where
       → set_letters l ≡ traced_letters up E → x ≡ exponential_sum up E → c ≡ start (traced up 32) E → set_terms s ≡ first (traced up 32) (set_letters l) c
       → ln ≡ held_letters (letter_numbers (set_letters l)) → sn ≡ held_terms (term_numbers (set_terms s))
       → (r.term ≡ (set_terms s).c.lost) × (r.operand ≡ operand_lost (set_letters l) (set_terms s))
-      → Opened up E (record { side = record { letters = ln; exponential = x; terms = sn }; losses = r })
+      → Opened up E (record { letters = ln; exponential = x; terms = sn }) r
   unfolding side term_lost
   opens el ex ec es eln esn er =
       let t = terms_at el ec es in
@@ -103,27 +102,31 @@ module _ (E : Encounter) {hi : Side} (eh : hi ≡ side true E 1) where
 
 -- ---- the count of exact terms and the losses
 
-pub opposite : (b : Bool) {o : Bool} {n : ℕ} → n ≡ cond o 0 1 → o ≡ not b → n ≡ cond b 1 0
+pub none_lost : (b : Bool) {n : ℕ} → n ≡ from_bool (not b) → n ≡ cond b 0 1
+none_lost true e = e
+none_lost false e = e
+
+pub opposite : (b : Bool) {o : Bool} {n : ℕ} → n ≡ from_bool (not o) → o ≡ not b → n ≡ cond b 1 0
 opposite true f e = rw e at f
 opposite false f e = rw e at f
 
 -- on either side
-pub either_are : (E : Encounter) {lo hi : OpenSide} {l : Losses} → Opened false E lo → Opened true E hi
-    → (l.term ≡ (lo.losses.term || hi.losses.term)) × (l.operand ≡ (lo.losses.operand || hi.losses.operand))
+pub either_are : (E : Encounter) {lo hi : Side} {l₀ l₁ l : Losses} → Opened false E lo l₀ → Opened true E hi l₁
+    → (l.term ≡ (l₀.term || l₁.term)) × (l.operand ≡ (l₀.operand || l₁.operand))
     → (l.term ≡ either_lost E 0) × (l.operand ≡ not (lossless E 1))
 unfolding either_lost lossless
 either_are E a b e = (rw (e.0, a.1, b.1), rw (e.1, a.2, b.2) (sym (not-not _)))
 
 -- ---- the session
 
-pub opened_is : (E : Encounter) (o : OpenSides) {m x : Scaled} {n k : ℕ}
-    → (o.lower ≡ side false E 1) × (o.upper ≡ side true E 1) × (o.losses.term ≡ either_lost E 0) × (o.losses.operand ≡ not (lossless E 1)) × (o.r256 ≡ r256 E)
-    → m ≡ M E → x ≡ next_d (rounded true 32) m 0 o.upper.terms.c
-    → n ≡ cond o.losses.term 0 1 → k ≡ cond o.losses.operand 0 1
-    → record { encounter = E; object = 0; time = 0; N = 1; lower = o.lower; upper = o.upper; r256 = o.r256; M = m; d = x; exact = n; lossless = k } ≡ state (no_object E) 1
+pub opened_is : (E : Encounter) {lo hi : Side} {r : Losses} {m q x : Scaled} {n k : ℕ}
+    → lo ≡ side false E 1 → hi ≡ side true E 1 → (r.term ≡ either_lost E 0) × (r.operand ≡ not (lossless E 1)) → q ≡ r256 E
+    → m ≡ M E → x ≡ next_d (rounded true 32) m 0 hi.terms.c
+    → n ≡ from_bool (not r.term) → k ≡ from_bool (not r.operand)
+    → record { encounter = E; object = 0; time = 0; N = 1; lower = lo; upper = hi; r256 = q; M = m; d = x; exact = n; lossless = k } ≡ state (no_object E) 1
 unfolding state
-opened_is E o {n = n} e em ex en ek =
-    let g = tail_is E e.1 em ex in
-    let c : n ≡ exact_terms E 1 = rw (en, e.2, first_exact E) in
-    let l = opposite (lossless E 1) ek e.3 in
-    λ i. record { encounter = E; object = 0; time = 0; N = 1; lower = e.0 i; upper = e.1 i; r256 = e.4 i; M = em i; d = g i; exact = c i; lossless = l i }
+opened_is E {n = n} el eh er eq em ex en ek =
+    let g = tail_is E eh em ex in
+    let c : n ≡ exact_terms E 1 = rw (none_lost _ en, er.0, first_exact E) in
+    let l = opposite (lossless E 1) ek er.1 in
+    λ i. record { encounter = E; object = 0; time = 0; N = 1; lower = el i; upper = eh i; r256 = eq i; M = em i; d = g i; exact = c i; lossless = l i }

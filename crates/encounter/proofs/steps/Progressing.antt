@@ -26,7 +26,7 @@ use Rattle.encounter.specs.declared.steps.numbers.TermSet.{TermSet}
 use Rattle.encounter.specs.Session.{side, state, conjunction_of}
 use Rattle.encounter.specs.Private.Held.{held_letters, step_letters, held_terms, step_terms, progress, counts, at_order, Begun}
 use Rattle.encounter.specs.Private.Loops.{narrow, letters_of, terms_of}
-use Rattle.encounter.proofs.steps.Pairs.{by_side}
+use Rattle.encounter.specs.Private.Operations.{by_side}
 
 module _ (s : Session) (b : Begun s) where
   abbrev pub E : Encounter

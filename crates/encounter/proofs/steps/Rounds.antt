@@ -20,7 +20,7 @@ use Rattle.encounter.specs.declared.steps.sides.PowerPairs.{PowerPairs}
 use Rattle.encounter.specs.declared.steps.sides.Pair.{Pair}
 use Rattle.encounter.specs.Private.Held.{HasT}
 use Rattle.encounter.specs.Private.Loops.{side_of, powers_of, next_r, PowersAt}
-use Rattle.encounter.proofs.steps.Pairs.{by_side}
+use Rattle.encounter.specs.Private.Operations.{by_side}
 
 -- ---- ranges
 

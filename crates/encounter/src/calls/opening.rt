@@ -10,66 +10,25 @@ ghost use Rattle.encounter.specs.Private.Held.{set_letters};
 use crate::state::{Session, Side};
 use crate::steps::letters::start;
 use crate::steps::losses::{
-    Losses, either_side, first_terms, letter_numbers, losses_at, none_lost, term_numbers,
+    Losses, either_side, first_terms, letter_numbers, losses_at, term_numbers,
 };
 use crate::steps::numbers::LetterSet;
 use crate::steps::powers::exponential_sums;
 use crate::steps::terms::first_tail;
 use exact::{Encounter, Scaled, Traced};
 
-// A side at order 1, and its losses.
-#[derive(Clone, Copy)]
-struct OpenSide {
-    side: Side,
-    losses: Losses,
-}
-
-// From its letters and its exponential sum.
-fn open_side(up: bool, E: Encounter, l: LetterSet<Traced>, exponential: Scaled) -> OpenSide
+// A side at order 1, from its letters and its exponential sum, and its losses.
+fn open_side(up: bool, E: Encounter, l: LetterSet<Traced>, exponential: Scaled) -> (Side, Losses)
     requires { (Bounds E) × (set_letters l ≡ traced_letters up E) × (exponential ≡ exponential_sum up E) }
-    ensures { (result.side ≡ side up E 1) × (result.losses.term ≡ term_lost up E 0) × (result.losses.operand ≡ operand_lost (traced_letters up E) (traced_terms up E 0)) }
+    ensures { (result.0 ≡ side up E 1) × (result.1.term ≡ term_lost up E 0) × (result.1.operand ≡ operand_lost (traced_letters up E) (traced_terms up E 0)) }
 {
     let s = first_terms(up, l, start(up, E));
-    let letters = letter_numbers(l);
-    let terms = term_numbers(s);
-    let losses = losses_at(l, s);
-    OpenSide {
-        side: Side {
-            letters,
-            exponential,
-            terms,
-        },
-        losses,
-    }
-}
-
-// Both sides at order 1, the losses of either and the upper r(256).
-#[derive(Clone, Copy)]
-struct OpenSides {
-    lower: Side,
-    upper: Side,
-    losses: Losses,
-    r256: Scaled,
-}
-
-// From both sides' letters.
-fn open_sides(E: Encounter, below: LetterSet<Traced>, above: LetterSet<Traced>) -> OpenSides
-    requires { (Accepted E) × (set_letters below ≡ traced_letters false E) × (set_letters above ≡ traced_letters true E) }
-    ensures { (result.lower ≡ side false E 1) × (result.upper ≡ side true E 1) × (result.losses.term ≡ either_lost E 0) × (result.losses.operand ≡ not (lossless E 1)) × (result.r256 ≡ r256_of E) }
-{
-    let sums = exponential_sums(below.t.number, above.t.number);
-    let one = open_side(false, E, below, sums.lower);
-    let other = open_side(true, E, above, sums.upper);
-    let losses = either_side(one.losses, other.losses);
-    let lower = one.side;
-    let upper = other.side;
-    let r256 = sums.r256;
-    OpenSides {
-        lower,
-        upper,
-        losses,
-        r256,
-    }
+    let side = Side {
+        letters: letter_numbers(l),
+        exponential,
+        terms: term_numbers(s),
+    };
+    (side, losses_at(l, s))
 }
 
 // From both sides' letters and M. The upper letters and M were formed for tests 7 and 11.
@@ -82,14 +41,10 @@ pub fn opened(
     requires { (Accepted E) × (set_letters below ≡ traced_letters false E) × (set_letters above ≡ traced_letters true E) × (M ≡ MOf E) }
     ensures { result ≡ state (no_object E) 1 }
 {
-    let sides = open_sides(E, below, above);
-    let lower = sides.lower;
-    let upper = sides.upper;
-    let r256 = sides.r256;
-    let lost = sides.losses;
-    let d = first_tail(M, upper.terms.c);
-    let exact = none_lost(lost.term);
-    let lossless = none_lost(lost.operand);
+    let sums = exponential_sums(below.t.number, above.t.number);
+    let (lower, one) = open_side(false, E, below, sums.lower);
+    let (upper, other) = open_side(true, E, above, sums.upper);
+    let lost = either_side(one, other);
     Session {
         encounter: E,
         object: 0,
@@ -97,10 +52,10 @@ pub fn opened(
         N: 1,
         lower,
         upper,
-        r256,
+        r256: sums.r256,
         M,
-        d,
-        exact,
-        lossless,
+        d: first_tail(M, upper.terms.c),
+        exact: u32::from(!lost.term),
+        lossless: u32::from(!lost.operand),
     }
 }

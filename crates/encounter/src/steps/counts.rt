@@ -4,7 +4,7 @@ ghost use Rattle.exact.specs.Numbers.{largest_order};
 ghost use Rattle.encounter.specs.Private.Held.{counts, counting, Begun};
 
 use crate::state::{Session, Terms};
-use crate::steps::losses::{either_side, none_lost, side_step};
+use crate::steps::losses::{either_side, side_step};
 
 // How many of the first terms are exact, and 1 where nothing was lost on the way to what the next term is formed of, else 0.
 #[derive(Clone, Copy)]
@@ -26,16 +26,13 @@ fn next_counting(s: Session, w: Counting, n: u64) -> Counting
     requires { (Begun s) × (n < largest_order) × (w ≡ counting s.encounter n) × (0 < w.counts.lossless) }
     ensures { result ≡ counting s.encounter (suc n) }
 {
-    let below = s.lower;
-    let above = s.upper;
-    let one = side_step(false, below.letters, w.lower, n);
-    let other = side_step(true, above.letters, w.upper, n);
-    let lost = either_side(one.losses, other.losses);
-    let exact = w.counts.exact + none_lost(lost.term);
-    let lossless = none_lost(lost.operand);
-    let counts = Counts { exact, lossless };
-    let lower = one.terms;
-    let upper = other.terms;
+    let (lower, below) = side_step(false, s.lower.letters, w.lower, n);
+    let (upper, above) = side_step(true, s.upper.letters, w.upper, n);
+    let lost = either_side(below, above);
+    let counts = Counts {
+        exact: w.counts.exact + u32::from(!lost.term),
+        lossless: u32::from(!lost.operand),
+    };
     Counting {
         lower,
         upper,

@@ -9,7 +9,6 @@ ghost use Rattle.exact.specs.Steps.{first, next_c, next};
 ghost use Rattle.encounter.specs.Private.Operations.{TracedIn, traced_keeps};
 ghost use Rattle.encounter.specs.Private.Held.{step_letters, step_terms, held_letters, held_terms, set_letters, set_terms, CleanLosses};
 
-use crate::arithmetic::rounding::either;
 use crate::arithmetic::traced::{clean, halved, over, product, sum};
 use crate::state::{Letters, Terms};
 use crate::steps::numbers::{LetterSet, Operations, TermSet};
@@ -66,48 +65,52 @@ impl Operations for OneSide {
 pub fn letter_numbers(l: LetterSet<Traced>) -> Letters
     ensures { result ≡ held_letters (letter_numbers (set_letters l)) }
 {
-    let u = l.u.number;
-    let h = l.h.number;
-    let X = l.X.number;
-    let Y = l.Y.number;
-    let t = l.t.number;
-    Letters { u, h, X, Y, t }
+    Letters {
+        u: l.u.number,
+        h: l.h.number,
+        X: l.X.number,
+        Y: l.Y.number,
+        t: l.t.number,
+    }
 }
 
 // The terms without their losses.
 pub fn term_numbers(s: TermSet<Traced>) -> Terms
     ensures { result ≡ held_terms (term_numbers (set_terms s)) }
 {
-    let c = s.c.number;
-    let p = s.p.number;
-    let v = s.v.number;
-    let y = s.y.number;
-    let sum = s.sum.number;
-    Terms { c, p, v, y, sum }
+    Terms {
+        c: s.c.number,
+        p: s.p.number,
+        v: s.v.number,
+        y: s.y.number,
+        sum: s.sum.number,
+    }
 }
 
 // Letters on whose way nothing was lost.
 fn clean_letters(l: Letters) -> LetterSet<Traced>
     ensures { set_letters result ≡ clean_letters (step_letters l) }
 {
-    let u = clean(l.u);
-    let h = clean(l.h);
-    let X = clean(l.X);
-    let Y = clean(l.Y);
-    let t = clean(l.t);
-    LetterSet { u, h, X, Y, t }
+    LetterSet {
+        u: clean(l.u),
+        h: clean(l.h),
+        X: clean(l.X),
+        Y: clean(l.Y),
+        t: clean(l.t),
+    }
 }
 
 // Terms on whose way nothing was lost.
 fn clean_terms(s: Terms) -> TermSet<Traced>
     ensures { set_terms result ≡ clean_terms (step_terms s) }
 {
-    let c = clean(s.c);
-    let p = clean(s.p);
-    let v = clean(s.v);
-    let y = clean(s.y);
-    let sum = clean(s.sum);
-    TermSet { c, p, v, y, sum }
+    TermSet {
+        c: clean(s.c),
+        p: clean(s.p),
+        v: clean(s.v),
+        y: clean(s.y),
+        sum: clean(s.sum),
+    }
 }
 
 // A side's terms of index 0.
@@ -115,10 +118,9 @@ pub fn first_terms(up: bool, l: LetterSet<Traced>, start: Traced) -> TermSet<Tra
     requires { (InRange 32 177 l.u.number) × (InRange 32 177 start.number) }
     ensures { set_terms result ≡ first (traced up 32) (set_letters l) start }
 {
-    let p = product(up, l.u, start);
     TermSet {
         c: start,
-        p,
+        p: product(up, l.u, start),
         v: start,
         y: start,
         sum: start,
@@ -136,19 +138,9 @@ pub struct Losses {
 pub fn losses_at(l: LetterSet<Traced>, s: TermSet<Traced>) -> Losses
     ensures { (result.term ≡ (set_terms s).c.lost) × (result.operand ≡ operand_lost (set_letters l) (set_terms s)) }
 {
-    let h = l.h;
-    let X = l.X;
-    let Y = l.Y;
-    let c = s.c;
-    let p = s.p;
-    let v = s.v;
-    let y = s.y;
-    let last = either(y.lost, c.lost);
-    let three = either(p.lost, either(v.lost, last));
-    let operand = either(h.lost, either(X.lost, either(Y.lost, three)));
     Losses {
-        term: c.lost,
-        operand,
+        term: s.c.lost,
+        operand: l.h.lost | l.X.lost | l.Y.lost | s.p.lost | s.v.lost | s.y.lost | s.c.lost,
     }
 }
 
@@ -156,36 +148,18 @@ pub fn losses_at(l: LetterSet<Traced>, s: TermSet<Traced>) -> Losses
 pub fn either_side(below: Losses, above: Losses) -> Losses
     ensures { (result.term ≡ (below.term || above.term)) × (result.operand ≡ (below.operand || above.operand)) }
 {
-    let term = either(below.term, above.term);
-    let operand = either(below.operand, above.operand);
-    Losses { term, operand }
-}
-
-// 1 where nothing was lost, else 0.
-pub fn none_lost(lost: bool) -> u32
-    ensures { result ≡ cond lost 0 1 }
-{
-    if lost {
-        return 0;
+    Losses {
+        term: below.term | above.term,
+        operand: below.operand | above.operand,
     }
-    1
 }
 
-// A side's terms one index on, without their losses, and what is lost there.
-#[derive(Clone, Copy)]
-pub struct SideStep {
-    pub terms: Terms,
-    pub losses: Losses,
-}
-
-// Where nothing was lost before.
-pub fn side_step(up: bool, l: Letters, s: Terms, n: u64) -> SideStep
+// A side's terms one index on, without their losses, and what is lost there, where nothing was lost before.
+pub fn side_step(up: bool, l: Letters, s: Terms, n: u64) -> (Terms, Losses)
     requires { (n < largest_order) × (LettersIn (step_letters l)) × (TermsIn largest_exponent (step_terms s)) }
-    ensures { (result.terms ≡ held_terms (next (rounded up 32) (step_letters l) n (step_terms s))) × CleanLosses up (step_letters l) (step_terms s) n result.losses }
+    ensures { (result.0 ≡ held_terms (next (rounded up 32) (step_letters l) n (step_terms s))) × CleanLosses up (step_letters l) (step_terms s) n result.1 }
 {
     let w = clean_letters(l);
     let next = next_terms(OneSide { up }, w, clean_terms(s), n);
-    let terms = term_numbers(next);
-    let losses = losses_at(w, next);
-    SideStep { terms, losses }
+    (term_numbers(next), losses_at(w, next))
 }

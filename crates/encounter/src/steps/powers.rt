@@ -62,8 +62,9 @@ pub fn exponential_sums(a: Scaled, b: Scaled) -> Exponentials
     let one = pair_of(Scaled::ONE, Scaled::ONE);
     let w = rounds(t, PowerPairs { r: one, sum: one });
     let last = one_round(t, w, LAST);
-    let lower = side(false, w.sum);
-    let upper = side(true, w.sum);
-    let r256 = side(true, last.r);
-    Exponentials { lower, upper, r256 }
+    Exponentials {
+        lower: side(false, w.sum),
+        upper: side(true, w.sum),
+        r256: side(true, last.r),
+    }
 }

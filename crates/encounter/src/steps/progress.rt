@@ -19,32 +19,15 @@ pub struct Progress {
     pub d: Scaled,
 }
 
-// A session's numbers as the loop holds them.
-#[derive(Clone, Copy)]
-struct Numbers {
-    l: LetterSet<Pair>,
-    M: Wide,
-    t: TermSet<Pair>,
-    d: Wide,
-}
-
-fn numbers_of(s: Session) -> Numbers
-    ensures { ((letters_of false result.l ≡ step_letters s.lower.letters) × (letters_of true result.l ≡ step_letters s.upper.letters)) × (narrow result.M ≡ s.M) × ((terms_of false result.t ≡ step_terms s.lower.terms) × (terms_of true result.t ≡ step_terms s.upper.terms)) × (narrow result.d ≡ s.d) }
-{
-    Numbers {
-        l: letter_pairs(s.lower.letters, s.upper.letters),
-        M: widen(s.M),
-        t: term_pairs(s.lower.terms, s.upper.terms),
-        d: widen(s.d),
-    }
-}
-
 // `count` terms more.
 pub fn advance(s: Session, count: u32) -> Progress
     requires { (Begun s) × (s.N + count ≤ largest_order) }
     ensures { result ≡ progress s.encounter (s.N + count - 1) }
 {
-    let Numbers { l, M, mut t, mut d } = numbers_of(s);
+    let l = letter_pairs(s.lower.letters, s.upper.letters);
+    let M = widen(s.M);
+    let mut t = term_pairs(s.lower.terms, s.upper.terms);
+    let mut d = widen(s.d);
     let first = (s.N - 1) as u64;
     let limit = (s.N + count - 1) as u64;
     for n in first..limit {

@@ -31,31 +31,34 @@ pub struct PowerPairs {
 pub fn pair_of(lower: Scaled, upper: Scaled) -> Pair
     ensures { (side_of false result ≡ lower) × (side_of true result ≡ upper) }
 {
-    let lower = widen(lower);
-    let upper = widen(upper);
-    Pair { lower, upper }
+    Pair {
+        lower: widen(lower),
+        upper: widen(upper),
+    }
 }
 
 pub fn letter_pairs(a: Letters, b: Letters) -> LetterSet<Pair>
     ensures { (letters_of false result ≡ step_letters a) × (letters_of true result ≡ step_letters b) }
 {
-    let u = pair_of(a.u, b.u);
-    let h = pair_of(a.h, b.h);
-    let X = pair_of(a.X, b.X);
-    let Y = pair_of(a.Y, b.Y);
-    let t = pair_of(a.t, b.t);
-    LetterSet { u, h, X, Y, t }
+    LetterSet {
+        u: pair_of(a.u, b.u),
+        h: pair_of(a.h, b.h),
+        X: pair_of(a.X, b.X),
+        Y: pair_of(a.Y, b.Y),
+        t: pair_of(a.t, b.t),
+    }
 }
 
 pub fn term_pairs(a: Terms, b: Terms) -> TermSet<Pair>
     ensures { (terms_of false result ≡ step_terms a) × (terms_of true result ≡ step_terms b) }
 {
-    let c = pair_of(a.c, b.c);
-    let p = pair_of(a.p, b.p);
-    let v = pair_of(a.v, b.v);
-    let y = pair_of(a.y, b.y);
-    let sum = pair_of(a.sum, b.sum);
-    TermSet { c, p, v, y, sum }
+    TermSet {
+        c: pair_of(a.c, b.c),
+        p: pair_of(a.p, b.p),
+        v: pair_of(a.v, b.v),
+        y: pair_of(a.y, b.y),
+        sum: pair_of(a.sum, b.sum),
+    }
 }
 
 pub fn side(up: bool, b: Pair) -> Scaled
@@ -63,21 +66,23 @@ pub fn side(up: bool, b: Pair) -> Scaled
     ensures { result ≡ side_of up b }
 {
     if up {
-        return narrowed(b.upper);
+        narrowed(b.upper)
+    } else {
+        narrowed(b.lower)
     }
-    narrowed(b.lower)
 }
 
 pub fn side_terms(up: bool, s: TermSet<Pair>) -> Terms
     requires { TermsIn largest_exponent (terms_of up s) }
     ensures { result ≡ held_terms (terms_of up s) }
 {
-    let c = side(up, s.c);
-    let p = side(up, s.p);
-    let v = side(up, s.v);
-    let y = side(up, s.y);
-    let sum = side(up, s.sum);
-    Terms { c, p, v, y, sum }
+    Terms {
+        c: side(up, s.c),
+        p: side(up, s.p),
+        v: side(up, s.v),
+        y: side(up, s.y),
+        sum: side(up, s.sum),
+    }
 }
 
 // Both sides' operations: D on the lower side, U on the upper.

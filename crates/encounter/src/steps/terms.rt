@@ -59,9 +59,8 @@ pub fn next_tail(M: Wide, d: Wide, n: u64) -> Wide
     requires { (n ≤ largest_order) × (InRange 32 400 (narrow M)) × (InRange 32 largest_exponent (narrow d)) }
     ensures { narrow result ≡ next_d (rounded true 32) (narrow M) n (narrow d) }
 {
-    let x = product(true, d, M);
-    let r = over(true, x.number, n + 2);
-    r.number
+    let x = product(true, d, M).number;
+    over(true, x, n + 2).number
 }
 
 // d(1) from d(0), which is c(0).
