@@ -10,7 +10,7 @@ use Rattle.exact.specs.Losses.{letter_numbers, term_numbers, traced_letters, tra
 use Rattle.exact.specs.Private.Ranges.{InRange, Bounds, LettersIn}
 use Rattle.exact.specs.declared.Encounter.{Encounter}
 use Rattle.exact.specs.Refusals.{Accepted}
-use Rattle.exact.specs.Steps.{LettersOf, TermsOf, start, first, terms, next_d, tail_term, bound, side_letters, side_start, side_terms, exponential_sum, r256, M, d}
+use Rattle.exact.specs.Steps.{LettersOf, start, first, terms, next_d, tail_term, bound, side_letters, side_start, side_terms, exponential_sum, r256, M, d}
 use Rattle.exact.proofs.Growth.{letters_in, start_in}
 use Rattle.exact.proofs.Exponents.{in_range}
 use Rattle.exact.proofs.Losses.{letters_number, start_number, terms_number, first_exact}
@@ -22,7 +22,6 @@ use Rattle.encounter.specs.declared.steps.numbers.LetterSet.{LetterSet}
 use Rattle.encounter.specs.declared.steps.numbers.TermSet.{TermSet}
 use Rattle.encounter.specs.Session.{state, no_object, side}
 use Rattle.encounter.specs.Private.Held.{held_letters, step_letters, held_terms, set_letters, set_terms, HasT}
-use Rattle.encounter.proofs.steps.SideNumbers.{terms_of_side}
 
 -- ---- the letters and c(0), as they are formed with their losses
 
@@ -89,8 +88,8 @@ module _ (E : Encounter) {l : LetterSet Traced} (e : set_letters l ≡ traced_le
 -- from the upper side at order 1
 module _ (E : Encounter) {hi : Side} (eh : hi ≡ side true E 1) where
   start_is : hi.terms.c ≡ side_start true E
-  unfolding side_terms terms first
-  start_is = ap (λ (s : TermsOf Scaled). s.c) (terms_of_side true E 1 eh)
+  unfolding side side_terms terms first
+  start_is = ap (λ (x : Side). x.terms.c) eh
 
   pub side_start_fine : Bounds E → InRange 32 177 hi.terms.c
   unfolding side_start

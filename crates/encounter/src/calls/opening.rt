@@ -1,9 +1,9 @@
 // The session of an accepted encounter at order 1, without object and time.
-ghost use Rattle.std.specs.Prelude.{◌≡◌, true, false, not};
+ghost use Rattle.std.specs.Prelude.{◌≡◌, true, false};
 ghost use Rattle.exact.specs.Private.Ranges.{Bounds};
 ghost use Rattle.exact.specs.Refusals.{Accepted};
-ghost use Rattle.exact.specs.Steps.{exponential_sum, r256 as r256_of, M as MOf};
-ghost use Rattle.exact.specs.Losses.{traced_letters, traced_terms, term_lost, operand_lost, either_lost, lossless};
+ghost use Rattle.exact.specs.Steps.{exponential_sum, M as MOf};
+ghost use Rattle.exact.specs.Losses.{traced_letters, traced_terms, term_lost, operand_lost};
 ghost use Rattle.encounter.specs.Session.{side, state, no_object};
 ghost use Rattle.encounter.specs.Private.Held.{set_letters};
 

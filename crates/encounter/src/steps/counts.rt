@@ -1,5 +1,5 @@
 // The count of exact terms, taken on term by term while nothing is lost (request #105 of document 02).
-ghost use Rattle.std.specs.Prelude.{◌≡◌, ◌&&◌, suc, ◌+◌, ◌≤◌, ◌<◌, ltb};
+ghost use Rattle.std.specs.Prelude.{◌≡◌, suc, ◌+◌, ◌≤◌, ◌<◌};
 ghost use Rattle.exact.specs.Numbers.{largest_order};
 ghost use Rattle.encounter.specs.Private.Held.{counts, counting, Begun};
 

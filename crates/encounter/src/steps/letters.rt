@@ -1,10 +1,10 @@
 // One side's letters, and the rounded c(0), each with whether something was lost on its way; and M.
-ghost use Rattle.std.specs.Prelude.{◌≡◌, true, ◌-◌, ◌*◌, ◌≤◌, ◌<◌, nat_abs};
+ghost use Rattle.std.specs.Prelude.{◌≡◌, true, ◌-◌, ◌*◌, ◌≤◌, ◌<◌};
 ghost use Rattle.exact.specs.Fraction.{◌over◌};
 ghost use Rattle.exact.specs.Numbers.{largest_length};
 ghost use Rattle.exact.specs.Arithmetic.{rounded, traced};
 ghost use Rattle.exact.specs.Losses.{letter_numbers, traced_letters};
-ghost use Rattle.exact.specs.Private.Ranges.{InRange, Bounds, LettersIn};
+ghost use Rattle.exact.specs.Private.Ranges.{Bounds, LettersIn};
 ghost use Rattle.exact.specs.Series.{u, b, zx, zy, g};
 ghost use Rattle.exact.specs.Steps.{bound as bound_of, start as start_of};
 ghost use Rattle.encounter.specs.Private.Held.{step_letters, set_letters};

@@ -1,11 +1,11 @@
 // What is lost on the way to a term (request #105 of document 02): one side's letters and terms, each with whether something was lost on its way.
-ghost use Rattle.std.specs.Prelude.{◌≡◌, ◌||◌, cond, suc, ◌*◌, ◌^◌, ◌<◌, ◌≤◌};
+ghost use Rattle.std.specs.Prelude.{◌≡◌, ◌||◌, ◌^◌, ◌<◌, ◌≤◌};
 ghost use Rattle.exact.specs.Arithmetic.{rounded, traced};
 ghost use Rattle.exact.specs.Losses.{letter_numbers, term_numbers, operand_lost};
 ghost use Rattle.exact.specs.Numbers.{largest_order};
 ghost use Rattle.exact.specs.Private.Ranges.{largest_exponent, InRange, LettersIn, TermsIn};
 ghost use Rattle.exact.specs.Private.Clean.{clean_letters, clean_terms};
-ghost use Rattle.exact.specs.Steps.{first, next_c, next};
+ghost use Rattle.exact.specs.Steps.{first, next};
 ghost use Rattle.encounter.specs.Private.Operations.{TracedIn, traced_keeps};
 ghost use Rattle.encounter.specs.Private.Held.{step_letters, step_terms, held_letters, held_terms, set_letters, set_terms, CleanLosses};
 

@@ -1,6 +1,5 @@
-// What the steps are formed of, whatever the numbers: a side's letters and terms, and the operations. The numbers are one side's with their losses (`Traced`), or
-// both sides' (`Pair`). In state.rt letters and terms are scaled numbers in structs of their own: the session is handed to C, and no generic struct can be (error
-// unsupported-generic-in-c).
+// What the steps are formed of, whatever the numbers: letters, terms and operations. The numbers are one side's with their losses (`Traced`, losses.rt) or both
+// sides' (`Pair`, sides.rt).
 ghost use Rattle.std.specs.Prelude.{◌≡◌, ℕ, ◌^◌, ◌≤◌, ◌<◌};
 ghost use Rattle.exact.specs.Arithmetic.{Arithmetic};
 ghost use Rattle.exact.proofs.Growth.{Keeps};
@@ -37,9 +36,10 @@ pub trait Operations: Copy {
     // The exponents of a number are from -B to B.
     ghost within: { ℕ → Self.Number → Type 0 };
 
-    // The whole number that it divides by.
+    // The whole number that a divisor divides by.
     ghost whole: { Self.Divisor → ℕ };
 
+    // What holds of every divisor that is formed.
     ghost divides: { Self.Divisor → Type 0 };
 
     // a × b.

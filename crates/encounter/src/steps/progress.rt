@@ -1,13 +1,11 @@
 // Both sides' terms and the upper d, taken on term by term.
 ghost use Rattle.std.specs.Prelude.{◌≡◌, true, false, ◌+◌, ◌-◌, ◌≤◌};
 ghost use Rattle.exact.specs.Numbers.{largest_order};
-ghost use Rattle.encounter.specs.Private.Held.{step_letters, step_terms, progress, Begun};
-ghost use Rattle.encounter.specs.Private.Loops.{narrow, letters_of, terms_of};
+ghost use Rattle.encounter.specs.Private.Held.{progress, Begun};
 
-use crate::arithmetic::wide::{Wide, narrowed, widen};
+use crate::arithmetic::wide::{narrowed, widen};
 use crate::state::{Session, Terms};
-use crate::steps::numbers::{LetterSet, TermSet};
-use crate::steps::sides::{BothSides, Pair, letter_pairs, side_terms, term_pairs};
+use crate::steps::sides::{BothSides, letter_pairs, side_terms, term_pairs};
 use crate::steps::terms::{next_tail, next_terms};
 use exact::Scaled;
 

@@ -1,15 +1,12 @@
 // Both sides' numbers together, each operation D on the lower side and U on the upper.
-ghost use Rattle.std.specs.Prelude.{◌≡◌, Bool, true, false, ◌^◌, ◌<◌};
-ghost use Rattle.exact.specs.Fraction.{◌⊕◌, ◌⊗◌, ◌÷◌};
-ghost use Rattle.exact.specs.Scaled.{value, half};
+ghost use Rattle.std.specs.Prelude.{◌≡◌, true, false, ◌^◌};
 ghost use Rattle.exact.specs.Private.Ranges.{largest_exponent, InRange, TermsIn};
-ghost use Rattle.exact.specs.Private.Round.{round};
 ghost use Rattle.encounter.specs.Private.Held.{step_letters, step_terms, held_terms};
 ghost use Rattle.encounter.specs.Private.Operations.{both, both_keeps, PairIn};
-ghost use Rattle.encounter.specs.Private.Loops.{narrow, side_of, letters_of, terms_of, IsReciprocal};
+ghost use Rattle.encounter.specs.Private.Loops.{side_of, letters_of, terms_of, IsReciprocal};
 
 use crate::arithmetic::wide::{
-    Reciprocal, Rounded, Wide, halved, narrowed, over, over_by, product, reciprocal_of, sum, widen,
+    Reciprocal, Wide, halved, narrowed, over, over_by, product, reciprocal_of, sum, widen,
 };
 use crate::state::{Letters, Terms};
 use crate::steps::numbers::{LetterSet, Operations, TermSet};

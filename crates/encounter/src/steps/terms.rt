@@ -1,5 +1,5 @@
 // A term more, of one side with its losses or of both sides; and the upper tail term d.
-ghost use Rattle.std.specs.Prelude.{◌≡◌, Bool, true, ◌+◌, ◌*◌, ◌≤◌, ◌<◌};
+ghost use Rattle.std.specs.Prelude.{◌≡◌, true, ◌+◌, ◌*◌, ◌≤◌, ◌<◌};
 ghost use Rattle.exact.specs.Numbers.{largest_order};
 ghost use Rattle.exact.specs.Arithmetic.{rounded};
 ghost use Rattle.exact.specs.Private.Ranges.{largest_exponent, InRange, LettersAll, TermsAll};
