@@ -1,9 +1,9 @@
 pub mod Opening
 pub mod Progressing
-pub mod Pairs
 pub mod Rounds
-pub mod SideNumbers
 pub mod Divisors
 pub mod Tracing
+pub mod TermRanges
+pub mod BothSides
 pub mod NextLosses
 pub mod Counting

@@ -5,7 +5,8 @@ ghost use Rattle.encounter.specs.Session.{refused, answer_of};
 use exact::refusals::Refusal;
 use exact::{Encounter, Scaled};
 
-// A side's letters.
+// A side's letters. Like Terms it is no instance of the generic struct of steps/numbers.rt: a session is handed to C, and no generic struct can be (error
+// unsupported-generic-in-c).
 #[repr(C)]
 #[derive(Clone, Copy)]
 pub struct Letters {

@@ -2,6 +2,7 @@
 pub mod counts;
 pub mod letters;
 pub mod losses;
+pub mod numbers;
 pub mod powers;
 pub mod progress;
 pub mod sides;

@@ -1,11 +1,10 @@
 -- The count of exact terms from index to index: one term more where nothing was lost before, and all others together where something was.
 use mathlib.Core.Path.{◌≡◌, refl, sym, ◌∙◌, ap}
-use mathlib.Core.Bool.{Bool, true, false, cond, ◌||◌, ◌&&◌, true≢false, false≢true}
+use mathlib.Core.Bool.{Bool, true, false, not, cond, ◌||◌}
 use mathlib.Core.Logic.{◌⊎◌, inl, inr}
 use Prim.Native.Nat.{ℕ, suc, ◌+◌, ◌-◌, ◌≤◌, ◌<◌}
 use native.Mathlib.Omega.{arith}
-use borrow.Author.Tests.{ltb-true, ltb-false}
-use lib.Dec.{ltb}
+use Rattle.std.specs.Int.{from_bool}
 use Rattle.exact.specs.declared.Encounter.{Encounter}
 use Rattle.exact.specs.Arithmetic.{rounded}
 use Rattle.exact.specs.Losses.{either_lost, exact_terms, lossless}
@@ -25,7 +24,7 @@ use Rattle.encounter.specs.Session.{side, state}
 use Rattle.encounter.specs.Private.Held.{step_letters, step_terms, held_terms, counts, counting, CleanLosses, Begun}
 use Rattle.encounter.proofs.steps.NextLosses.{side_terms_are, next_losses_are}
 use Rattle.encounter.proofs.steps.Progressing.{lower_letters_are, upper_letters_are, terms_fine}
-use Rattle.encounter.proofs.steps.Opening.{opposite}
+use Rattle.encounter.proofs.steps.Opening.{none_lost, opposite}
 
 -- ---- the count and the losses
 
@@ -48,27 +47,9 @@ is_none : (b : Bool) → cond b 1 0 ≤ 0 → b ≡ false
 is_none true l = let f : ⊥ = omega (arith, l) in absurd f
 is_none false l = refl
 
-pub one_at_most : (b : Bool) {n : ℕ} → n ≡ cond b 0 1 → n ≤ 1
+pub one_at_most : (b : Bool) {n : ℕ} → n ≡ from_bool (not b) → n ≤ 1
 one_at_most true e = omega (arith, e)
 one_at_most false e = omega (arith, e)
-
--- ---- the loop's test
-
-pub may_go_on : (m n k : ℕ) {t : Bool} → t ≡ (ltb 0 m && ltb n k) → t ≡ true → (0 < m) × (n < k)
-may_go_on m n k e f = go (ltb 0 m) (ltb n k) refl refl (sym e ∙ f)
-  where
-    go : (a b : Bool) → ltb 0 m ≡ a → ltb n k ≡ b → a && b ≡ true → (0 < m) × (n < k)
-    go true true e f h = (ltb-true 0 m e, ltb-true n k f)
-    go true false e f h = absurd (false≢true h)
-    go false b e f h = absurd (false≢true h)
-
-none_more : (m n k : ℕ) {t : Bool} → t ≡ (ltb 0 m && ltb n k) → t ≡ false → (k ≤ n) ⊎ (m ≤ 0)
-none_more m n k e f = go (ltb 0 m) (ltb n k) refl refl (sym e ∙ f)
-  where
-    go : (a b : Bool) → ltb 0 m ≡ a → ltb n k ≡ b → a && b ≡ false → (k ≤ n) ⊎ (m ≤ 0)
-    go true true e f h = absurd (true≢false h)
-    go true false e f h = inl (ltb-false n k f)
-    go false b e f h = inr (ltb-false 0 m e)
 
 -- ---- the numbers of a session, taken on
 
@@ -121,24 +102,22 @@ module _ (s : Session) (b : Begun s) where
         → CleanLosses false (step_letters s.lower.letters) (step_terms w.lower) n a
         → CleanLosses true (step_letters s.upper.letters) (step_terms w.upper) n b
         → (r.term ≡ (a.term || b.term)) × (r.operand ≡ (a.operand || b.operand))
-        → x ≡ cond r.term 0 1
-        → y ≡ cond r.operand 0 1
+        → x ≡ from_bool (not r.term)
+        → y ≡ from_bool (not r.operand)
         → record { lower = lo; upper = hi; counts = record { exact = w.counts.exact + x; lossless = y } } ≡ counting E (suc n)
     next_is {r = r} {x} {y} l el eh ka kb er ex ey =
         let h = nothing_lost l in
         let k = next_losses_are E n lower_letters upper_letters lower_terms upper_terms h ka kb er in
         let u = side_terms_are false E n lower_letters lower_terms el in
         let v = side_terms_are true E n upper_letters upper_terms eh in
-        let c : w.counts.exact + x ≡ exact_terms E (suc (suc n)) = rw (e, ex) (more_exact E n r.term h k.0) in
+        let c : w.counts.exact + x ≡ exact_terms E (suc (suc n)) = rw (e, none_lost _ ex) (more_exact E n r.term h k.0) in
         let o = opposite (lossless E (suc (suc n))) ey k.1 in
         λ i. record { lower = u i; upper = v i; counts = record { exact = c i; lossless = o i } }
 
-    -- after the loop, where the last index is m
-    pub counting_ends : (m : ℕ) {t : Bool} → n ≤ m → t ≡ (ltb 0 w.counts.lossless && ltb n m) → t ≡ false → w.counts ≡ counts E (suc m)
-    counting_ends m k et ef = go (none_more _ n m et ef)
-      where
-        go : (m ≤ n) ⊎ (w.counts.lossless ≤ 0) → w.counts ≡ counts E (suc m)
-        go (inl l) = let i : n ≡ m = omega (arith, k, l) in ap (λ (w : Counting). w.counts) e ∙ rw i
-        go (inr z) =
-            let i : suc n + (m - n) ≡ suc m = omega (arith, k) in
-            ap (λ (w : Counting). w.counts) e ∙ all_lost E n (m - n) (is_none _ (rw e at z)) ∙ rw i
+    -- after the loop, which ends at m or where something was lost
+    pub counting_ends : (m : ℕ) → n ≤ m → (m ≤ n) ⊎ (w.counts.lossless ≡ 0) → w.counts ≡ counts E (suc m)
+    counting_ends m k (inl l) = let i : n ≡ m = omega (arith, k, l) in ap (λ (w : Counting). w.counts) e ∙ rw i
+    counting_ends m k (inr z) =
+        let i : suc n + (m - n) ≡ suc m = omega (arith, k) in
+        let o : cond (lossless E (suc n)) 1 0 ≤ 0 = omega (arith, rw e at z) in
+        ap (λ (w : Counting). w.counts) e ∙ all_lost E n (m - n) (is_none _ o) ∙ rw i

@@ -6,8 +6,8 @@ use borrow.Author.Tests.{not-true}
 use Rattle.exact.specs.declared.Encounter.{Encounter}
 use Rattle.exact.specs.declared.Traced.{Traced}
 use Rattle.exact.specs.Arithmetic.{rounded, rounding, traced}
-use Rattle.exact.specs.Losses.{letter_numbers, term_numbers, traced_letters, traced_terms, term_lost, operand_lost, either_lost, lossless}
-use Rattle.exact.specs.Private.Ranges.{largest_exponent, LettersIn, TermsIn}
+use Rattle.exact.specs.Losses.{term_numbers, traced_letters, traced_terms, term_lost, operand_lost, either_lost, lossless}
+use Rattle.exact.specs.Private.Ranges.{largest_exponent, LettersAll, TermsAll, LettersIn, TermsIn}
 use Rattle.exact.specs.Private.Clean.{clean_letters, clean_terms}
 use Rattle.exact.specs.Steps.{LettersOf, TermsOf, next_c, next_p, next_v, next_y, next, terms, side_letters, side_terms}
 use Rattle.exact.proofs.Accepted.{neither}
@@ -15,30 +15,31 @@ use Rattle.exact.proofs.Losses.{clean_term, clean_operand}
 use Rattle.encounter.specs.declared.state.Letters.{Letters}
 use Rattle.encounter.specs.declared.state.Terms.{Terms}
 use Rattle.encounter.specs.declared.steps.losses.Losses.{Losses}
-use Rattle.encounter.specs.declared.steps.losses.TracedLetters.{TracedLetters}
-use Rattle.encounter.specs.declared.steps.losses.TracedTerms.{TracedTerms}
-use Rattle.encounter.specs.Private.Held.{step_letters, step_terms, held_terms, way_letters, way_terms, CleanLosses}
+use Rattle.encounter.specs.declared.steps.numbers.LetterSet.{LetterSet}
+use Rattle.encounter.specs.declared.steps.numbers.TermSet.{TermSet}
+use Rattle.encounter.specs.Private.Operations.{TracedIn}
+use Rattle.encounter.specs.Private.Held.{step_letters, step_terms, held_terms, set_letters, set_terms, CleanLosses}
 
 -- ---- a side's losses one index on, from clean numbers
 
-pub clean_letters_fine : {l : Letters} {w : TracedLetters} → way_letters w ≡ clean_letters (step_letters l) → LettersIn (step_letters l) → LettersIn (letter_numbers (way_letters w))
-clean_letters_fine e i = subst (λ (x : LettersOf Traced). LettersIn (letter_numbers x)) (sym e) i
+pub clean_letters_fine : {l : Letters} {w : LetterSet Traced} → set_letters w ≡ clean_letters (step_letters l) → LettersIn (step_letters l) → LettersAll TracedIn (set_letters w)
+clean_letters_fine e i = subst (λ (x : LettersOf Traced). LettersAll TracedIn x) (sym e) (record { u = i.u; h = i.h; X = i.X; Y = i.Y; t = i.t })
 
-pub clean_terms_fine : {s : Terms} {w : TracedTerms} → way_terms w ≡ clean_terms (step_terms s) → TermsIn largest_exponent (step_terms s) → TermsIn largest_exponent (term_numbers (way_terms w))
-clean_terms_fine e i = subst (λ (x : TermsOf Traced). TermsIn largest_exponent (term_numbers x)) (sym e) i
+pub clean_terms_fine : {s : Terms} {w : TermSet Traced} → set_terms w ≡ clean_terms (step_terms s) → TermsIn largest_exponent (step_terms s) → TermsAll TracedIn largest_exponent (set_terms w)
+clean_terms_fine e i = subst (λ (x : TermsOf Traced). TermsAll TracedIn largest_exponent x) (sym e) (record { c = i.c; p = i.p; v = i.v; y = i.y; sum = i.sum })
 
-pub clean_losses_are : (up : Bool) (n : ℕ) {l : Letters} {s : Terms} {w : TracedLetters} {t x : TracedTerms} {r : Losses}
-    → way_letters w ≡ clean_letters (step_letters l) → way_terms t ≡ clean_terms (step_terms s) → way_terms x ≡ next (traced up 32) (way_letters w) n (way_terms t)
-    → (r.term ≡ (way_terms x).c.lost) × (r.operand ≡ operand_lost (way_letters w) (way_terms x))
+pub clean_losses_are : (up : Bool) (n : ℕ) {l : Letters} {s : Terms} {w : LetterSet Traced} {t x : TermSet Traced} {r : Losses}
+    → set_letters w ≡ clean_letters (step_letters l) → set_terms t ≡ clean_terms (step_terms s) → set_terms x ≡ next (traced up 32) (set_letters w) n (set_terms t)
+    → (r.term ≡ (set_terms x).c.lost) × (r.operand ≡ operand_lost (set_letters w) (set_terms x))
     → CleanLosses up (step_letters l) (step_terms s) n r
 clean_losses_are up n ew et ex e =
     let p = ex ∙ (λ i. next (traced up 32) (ew i) n (et i)) in
     record { term_is = e.0 ∙ (λ i. (p i).c.lost); operand_is = e.1 ∙ (λ i. operand_lost (ew i) (p i)) }
 
 -- the numbers are those formed without losses
-pub clean_terms_are : (up : Bool) (n : ℕ) {l : Letters} {s r : Terms} {w : TracedLetters} {t x : TracedTerms}
-    → way_letters w ≡ clean_letters (step_letters l) → way_terms t ≡ clean_terms (step_terms s) → way_terms x ≡ next (traced up 32) (way_letters w) n (way_terms t)
-    → r ≡ held_terms (term_numbers (way_terms x)) → r ≡ held_terms (next (rounded up 32) (step_letters l) n (step_terms s))
+pub clean_terms_are : (up : Bool) (n : ℕ) {l : Letters} {s r : Terms} {w : LetterSet Traced} {t x : TermSet Traced}
+    → set_letters w ≡ clean_letters (step_letters l) → set_terms t ≡ clean_terms (step_terms s) → set_terms x ≡ next (traced up 32) (set_letters w) n (set_terms t)
+    → r ≡ held_terms (term_numbers (set_terms x)) → r ≡ held_terms (next (rounded up 32) (step_letters l) n (step_terms s))
 unfolding next next_c next_p next_v next_y traced rounded rounding
 clean_terms_are up n ew et ex er = er ∙ ap (λ (x : TermsOf Traced). held_terms (term_numbers x)) (ex ∙ (λ i. next (traced up 32) (ew i) n (et i)))
 

@@ -2,6 +2,7 @@
 use mathlib.Core.Path.{◌≡◌, sym, ◌∙◌, ap, subst}
 use mathlib.Core.Bool.{Bool, true, false, cond, not, ◌||◌, not-not}
 use Prim.Native.Nat.{ℕ}
+use Rattle.std.specs.Int.{from_bool}
 use Rattle.exact.specs.declared.Scaled.{Scaled}
 use Rattle.exact.specs.declared.Traced.{Traced}
 use Rattle.exact.specs.Arithmetic.{rounded, traced}
@@ -9,7 +10,7 @@ use Rattle.exact.specs.Losses.{letter_numbers, term_numbers, traced_letters, tra
 use Rattle.exact.specs.Private.Ranges.{InRange, Bounds, LettersIn}
 use Rattle.exact.specs.declared.Encounter.{Encounter}
 use Rattle.exact.specs.Refusals.{Accepted}
-use Rattle.exact.specs.Steps.{LettersOf, TermsOf, start, first, terms, next_d, tail_term, bound, side_letters, side_start, side_terms, exponential_sum, r256, M, d}
+use Rattle.exact.specs.Steps.{LettersOf, start, first, terms, next_d, tail_term, bound, side_letters, side_start, side_terms, exponential_sum, r256, M, d}
 use Rattle.exact.proofs.Growth.{letters_in, start_in}
 use Rattle.exact.proofs.Exponents.{in_range}
 use Rattle.exact.proofs.Losses.{letters_number, start_number, terms_number, first_exact}
@@ -17,23 +18,20 @@ use Rattle.encounter.specs.declared.state.Letters.{Letters}
 use Rattle.encounter.specs.declared.state.Side.{Side}
 use Rattle.encounter.specs.declared.state.Terms.{Terms}
 use Rattle.encounter.specs.declared.steps.losses.Losses.{Losses}
-use Rattle.encounter.specs.declared.steps.losses.TracedLetters.{TracedLetters}
-use Rattle.encounter.specs.declared.steps.losses.TracedTerms.{TracedTerms}
-use Rattle.encounter.specs.declared.calls.opening.OpenSide.{OpenSide}
-use Rattle.encounter.specs.declared.calls.opening.OpenSides.{OpenSides}
+use Rattle.encounter.specs.declared.steps.numbers.LetterSet.{LetterSet}
+use Rattle.encounter.specs.declared.steps.numbers.TermSet.{TermSet}
 use Rattle.encounter.specs.Session.{state, no_object, side}
-use Rattle.encounter.specs.Private.Held.{held_letters, step_letters, held_terms, way_letters, way_terms, HasT}
-use Rattle.encounter.proofs.steps.SideNumbers.{terms_of_side}
+use Rattle.encounter.specs.Private.Held.{held_letters, step_letters, held_terms, set_letters, set_terms, HasT}
 
 -- ---- the letters and c(0), as they are formed with their losses
 
 module _ (up : Bool) (E : Encounter) where
   -- their numbers are the side's
-  letters_are : {l : TracedLetters} → way_letters l ≡ traced_letters up E → letter_numbers (way_letters l) ≡ side_letters up E
+  letters_are : {l : LetterSet Traced} → set_letters l ≡ traced_letters up E → letter_numbers (set_letters l) ≡ side_letters up E
   letters_are e = ap letter_numbers e ∙ letters_number up E
 
   -- with the ranges of these
-  pub letters_fine : {l : TracedLetters} → Bounds E → way_letters l ≡ traced_letters up E → (way_letters l ≡ traced_letters up E) × LettersIn (letter_numbers (way_letters l))
+  pub letters_fine : {l : LetterSet Traced} → Bounds E → set_letters l ≡ traced_letters up E → (set_letters l ≡ traced_letters up E) × LettersIn (letter_numbers (set_letters l))
   unfolding side_letters
   letters_fine f e = (e, subst LettersIn (sym (letters_are e)) (letters_in (in_range up) f))
 
@@ -42,26 +40,26 @@ module _ (up : Bool) (E : Encounter) where
   start_fine f e = rw (e, start_number up E) (start_in (in_range up) f)
 
 -- both t, as the exponential takes them
-pub t_are : (E : Encounter) {lo hi : TracedLetters} → Accepted E → way_letters lo ≡ traced_letters false E → way_letters hi ≡ traced_letters true E → HasT E lo.t.number hi.t.number
+pub t_are : (E : Encounter) {lo hi : LetterSet Traced} → Accepted E → set_letters lo ≡ traced_letters false E → set_letters hi ≡ traced_letters true E → HasT E lo.t.number hi.t.number
 t_are E a el eh = (a, ap (λ (l : LettersOf Scaled). l.t) (letters_are false E el), ap (λ (l : LettersOf Scaled). l.t) (letters_are true E eh))
 
 -- ---- a side at order 1
 
 -- x is the side, with its losses
-abbrev pub Opened : Bool → Encounter → OpenSide → Type 0
-Opened up E x = (x.side ≡ side up E 1) × (x.losses.term ≡ term_lost up E 0) × (x.losses.operand ≡ operand_lost (traced_letters up E) (traced_terms up E 0))
+abbrev pub Opened : Bool → Encounter → Side → Losses → Type 0
+Opened up E x r = (x ≡ side up E 1) × (r.term ≡ term_lost up E 0) × (r.operand ≡ operand_lost (traced_letters up E) (traced_terms up E 0))
 
 module _ (up : Bool) (E : Encounter) where
-  terms_at : {l : TracedLetters} {c : Traced} {s : TracedTerms} → way_letters l ≡ traced_letters up E → c ≡ start (traced up 32) E → way_terms s ≡ first (traced up 32) (way_letters l) c
-      → way_terms s ≡ traced_terms up E 0
+  terms_at : {l : LetterSet Traced} {c : Traced} {s : TermSet Traced} → set_letters l ≡ traced_letters up E → c ≡ start (traced up 32) E → set_terms s ≡ first (traced up 32) (set_letters l) c
+      → set_terms s ≡ traced_terms up E 0
   unfolding traced_terms terms
   terms_at el ec es = es ∙ (λ i. first (traced up 32) (el i) (ec i))
 
-  pub opens : {l : TracedLetters} {c : Traced} {s : TracedTerms} {ln : Letters} {sn : Terms} {x : Scaled} {r : Losses}
-      → way_letters l ≡ traced_letters up E → x ≡ exponential_sum up E → c ≡ start (traced up 32) E → way_terms s ≡ first (traced up 32) (way_letters l) c
-      → ln ≡ held_letters (letter_numbers (way_letters l)) → sn ≡ held_terms (term_numbers (way_terms s))
-      → (r.term ≡ (way_terms s).c.lost) × (r.operand ≡ operand_lost (way_letters l) (way_terms s))
-      → Opened up E (record { side = record { letters = ln; exponential = x; terms = sn }; losses = r })
+  pub opens : {l : LetterSet Traced} {c : Traced} {s : TermSet Traced} {ln : Letters} {sn : Terms} {x : Scaled} {r : Losses}
+      → set_letters l ≡ traced_letters up E → x ≡ exponential_sum up E → c ≡ start (traced up 32) E → set_terms s ≡ first (traced up 32) (set_letters l) c
+      → ln ≡ held_letters (letter_numbers (set_letters l)) → sn ≡ held_terms (term_numbers (set_terms s))
+      → (r.term ≡ (set_terms s).c.lost) × (r.operand ≡ operand_lost (set_letters l) (set_terms s))
+      → Opened up E (record { letters = ln; exponential = x; terms = sn }) r
   unfolding side term_lost
   opens el ex ec es eln esn er =
       let t = terms_at el ec es in
@@ -79,7 +77,7 @@ pub numbers_fine : {x : LettersOf Scaled} {ln : Letters} → ln ≡ held_letters
 numbers_fine e i = rw e i
 
 -- from the upper letters
-module _ (E : Encounter) {l : TracedLetters} (e : way_letters l ≡ traced_letters true E) {ln : Letters} (eln : ln ≡ held_letters (letter_numbers (way_letters l))) where
+module _ (E : Encounter) {l : LetterSet Traced} (e : set_letters l ≡ traced_letters true E) {ln : Letters} (eln : ln ≡ held_letters (letter_numbers (set_letters l))) where
   numbers_are : step_letters ln ≡ side_letters true E
   numbers_are = ap step_letters eln ∙ letters_are true E e
 
@@ -90,8 +88,8 @@ module _ (E : Encounter) {l : TracedLetters} (e : way_letters l ≡ traced_lette
 -- from the upper side at order 1
 module _ (E : Encounter) {hi : Side} (eh : hi ≡ side true E 1) where
   start_is : hi.terms.c ≡ side_start true E
-  unfolding side_terms terms first
-  start_is = ap (λ (s : TermsOf Scaled). s.c) (terms_of_side true E 1 eh)
+  unfolding side side_terms terms first
+  start_is = ap (λ (x : Side). x.terms.c) eh
 
   pub side_start_fine : Bounds E → InRange 32 177 hi.terms.c
   unfolding side_start
@@ -103,27 +101,31 @@ module _ (E : Encounter) {hi : Side} (eh : hi ≡ side true E 1) where
 
 -- ---- the count of exact terms and the losses
 
-pub opposite : (b : Bool) {o : Bool} {n : ℕ} → n ≡ cond o 0 1 → o ≡ not b → n ≡ cond b 1 0
+pub none_lost : (b : Bool) {n : ℕ} → n ≡ from_bool (not b) → n ≡ cond b 0 1
+none_lost true e = e
+none_lost false e = e
+
+pub opposite : (b : Bool) {o : Bool} {n : ℕ} → n ≡ from_bool (not o) → o ≡ not b → n ≡ cond b 1 0
 opposite true f e = rw e at f
 opposite false f e = rw e at f
 
 -- on either side
-pub either_are : (E : Encounter) {lo hi : OpenSide} {l : Losses} → Opened false E lo → Opened true E hi
-    → (l.term ≡ (lo.losses.term || hi.losses.term)) × (l.operand ≡ (lo.losses.operand || hi.losses.operand))
+pub either_are : (E : Encounter) {lo hi : Side} {l₀ l₁ l : Losses} → Opened false E lo l₀ → Opened true E hi l₁
+    → (l.term ≡ (l₀.term || l₁.term)) × (l.operand ≡ (l₀.operand || l₁.operand))
     → (l.term ≡ either_lost E 0) × (l.operand ≡ not (lossless E 1))
 unfolding either_lost lossless
 either_are E a b e = (rw (e.0, a.1, b.1), rw (e.1, a.2, b.2) (sym (not-not _)))
 
 -- ---- the session
 
-pub opened_is : (E : Encounter) (o : OpenSides) {m x : Scaled} {n k : ℕ}
-    → (o.lower ≡ side false E 1) × (o.upper ≡ side true E 1) × (o.losses.term ≡ either_lost E 0) × (o.losses.operand ≡ not (lossless E 1)) × (o.r256 ≡ r256 E)
-    → m ≡ M E → x ≡ next_d (rounded true 32) m 0 o.upper.terms.c
-    → n ≡ cond o.losses.term 0 1 → k ≡ cond o.losses.operand 0 1
-    → record { encounter = E; object = 0; time = 0; N = 1; lower = o.lower; upper = o.upper; r256 = o.r256; M = m; d = x; exact = n; lossless = k } ≡ state (no_object E) 1
+pub opened_is : (E : Encounter) {lo hi : Side} {r : Losses} {m q x : Scaled} {n k : ℕ}
+    → lo ≡ side false E 1 → hi ≡ side true E 1 → (r.term ≡ either_lost E 0) × (r.operand ≡ not (lossless E 1)) → q ≡ r256 E
+    → m ≡ M E → x ≡ next_d (rounded true 32) m 0 hi.terms.c
+    → n ≡ from_bool (not r.term) → k ≡ from_bool (not r.operand)
+    → record { encounter = E; object = 0; time = 0; N = 1; lower = lo; upper = hi; r256 = q; M = m; d = x; exact = n; lossless = k } ≡ state (no_object E) 1
 unfolding state
-opened_is E o {n = n} e em ex en ek =
-    let g = tail_is E e.1 em ex in
-    let c : n ≡ exact_terms E 1 = rw (en, e.2, first_exact E) in
-    let l = opposite (lossless E 1) ek e.3 in
-    λ i. record { encounter = E; object = 0; time = 0; N = 1; lower = e.0 i; upper = e.1 i; r256 = e.4 i; M = em i; d = g i; exact = c i; lossless = l i }
+opened_is E {n = n} el eh er eq em ex en ek =
+    let g = tail_is E eh em ex in
+    let c : n ≡ exact_terms E 1 = rw (none_lost _ en, er.0, first_exact E) in
+    let l = opposite (lossless E 1) ek er.1 in
+    λ i. record { encounter = E; object = 0; time = 0; N = 1; lower = el i; upper = eh i; r256 = eq i; M = em i; d = g i; exact = c i; lossless = l i }

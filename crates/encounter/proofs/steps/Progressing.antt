@@ -20,12 +20,13 @@ use Rattle.encounter.specs.declared.state.Session.{Session}
 use Rattle.encounter.specs.declared.steps.counts.Counts.{Counts}
 use Rattle.encounter.specs.declared.steps.progress.Progress.{Progress}
 use Rattle.encounter.specs.declared.arithmetic.wide.Wide.{Wide}
-use Rattle.encounter.specs.declared.steps.sides.LetterPairs.{LetterPairs}
-use Rattle.encounter.specs.declared.steps.sides.TermPairs.{TermPairs}
+use Rattle.encounter.specs.declared.steps.numbers.LetterSet.{LetterSet}
+use Rattle.encounter.specs.declared.steps.sides.Pair.{Pair}
+use Rattle.encounter.specs.declared.steps.numbers.TermSet.{TermSet}
 use Rattle.encounter.specs.Session.{side, state, conjunction_of}
 use Rattle.encounter.specs.Private.Held.{held_letters, step_letters, held_terms, step_terms, progress, counts, at_order, Begun}
 use Rattle.encounter.specs.Private.Loops.{narrow, letters_of, terms_of}
-use Rattle.encounter.proofs.steps.Pairs.{by_side}
+use Rattle.encounter.specs.Private.Operations.{by_side}
 
 module _ (s : Session) (b : Begun s) where
   abbrev pub E : Encounter
@@ -71,7 +72,7 @@ module _ (s : Session) (b : Begun s) where
 -- ---- both sides together, as the loop holds them
 
 -- an encounter's numbers at index n
-pub record Holds (E : Encounter) (l : LetterPairs) (m : Wide) (t : TermPairs) (x : Wide) (n : ℕ) : Type 0 where
+pub record Holds (E : Encounter) (l : LetterSet Pair) (m : Wide) (t : TermSet Pair) (x : Wide) (n : ℕ) : Type 0 where
   pub letters_are : (up : Bool) → letters_of up l ≡ side_letters up E
   pub bound_is : narrow m ≡ M E
   pub terms_are : (up : Bool) → terms_of up t ≡ side_terms up E n
@@ -96,7 +97,7 @@ module _ (s : Session) (b : Begun s) where
   unfolding state
   tail_at = ap (λ (x : Session). x.d) b.is ∙ ap (d s.encounter) order
 
-  pub start_holds : {l : LetterPairs} {m : Wide} {t : TermPairs} {x : Wide}
+  pub start_holds : {l : LetterSet Pair} {m : Wide} {t : TermSet Pair} {x : Wide}
       → (letters_of false l ≡ step_letters s.lower.letters) × (letters_of true l ≡ step_letters s.upper.letters) → narrow m ≡ s.M
       → (terms_of false t ≡ step_terms s.lower.terms) × (terms_of true t ≡ step_terms s.upper.terms) → narrow x ≡ s.d
       → Holds s.encounter l m t x (s.N - 1)
@@ -108,7 +109,7 @@ module _ (s : Session) (b : Begun s) where
   }
 
 -- the ranges
-module _ {s : Session} (b : Begun s) {l : LetterPairs} {m : Wide} {t : TermPairs} {x : Wide} {n : ℕ} (h : Holds s.encounter l m t x n) where
+module _ {s : Session} (b : Begun s) {l : LetterSet Pair} {m : Wide} {t : TermSet Pair} {x : Wide} {n : ℕ} (h : Holds s.encounter l m t x n) where
   pub letters_held : (up : Bool) → LettersIn (letters_of up l)
   unfolding side_letters
   letters_held up = rw (h.letters_are up) (letters_in (in_range up) (facts b.fine).bounds)
@@ -133,7 +134,7 @@ module _ (E : Encounter) (n : ℕ) where
   next_d_is em ex er = er ∙ rw (em, ex, add-one)
 
   -- one term more
-  pub next_holds : {l : LetterPairs} {m : Wide} {t t' : TermPairs} {x x' : Wide} → Holds E l m t x n
+  pub next_holds : {l : LetterSet Pair} {m : Wide} {t t' : TermSet Pair} {x x' : Wide} → Holds E l m t x n
       → ((up : Bool) → terms_of up t' ≡ next (rounded up 32) (letters_of up l) n (terms_of up t))
       → narrow x' ≡ next_d (rounded true 32) (narrow m) (n + 1) (narrow x)
       → Holds E l m t' x' (n + 1)
@@ -145,7 +146,7 @@ module _ (E : Encounter) (n : ℕ) where
   }
 
   -- after the loop
-  pub holds_progress : {l : LetterPairs} {m : Wide} {t : TermPairs} {x : Wide} {lo hi : Terms} {y : Scaled} → Holds E l m t x n
+  pub holds_progress : {l : LetterSet Pair} {m : Wide} {t : TermSet Pair} {x : Wide} {lo hi : Terms} {y : Scaled} → Holds E l m t x n
       → lo ≡ held_terms (terms_of false t) → hi ≡ held_terms (terms_of true t) → y ≡ narrow x
       → record { lower = lo; upper = hi; d = y } ≡ progress E n
   unfolding progress

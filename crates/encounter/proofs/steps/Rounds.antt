@@ -6,12 +6,10 @@ use native.Mathlib.Omega.{arith}
 use lib.Dec.{lit≤}
 use Rattle.exact.specs.declared.Encounter.{Encounter}
 use Rattle.exact.specs.declared.Scaled.{Scaled}
-use Rattle.exact.specs.Fraction.{◌⊕◌}
 use Rattle.exact.specs.Numbers.{exponential_cut}
 use Rattle.exact.specs.Refusals.{Accepted}
-use Rattle.exact.specs.Scaled.{one, value}
+use Rattle.exact.specs.Scaled.{one}
 use Rattle.exact.specs.Private.Ranges.{largest_exponent, InRange, PowersIn}
-use Rattle.exact.specs.Private.Round.{round}
 use Rattle.exact.specs.Arithmetic.{rounded}
 use Rattle.exact.specs.Steps.{PowersOf, next_power, powers, side_letters, side_powers}
 use Rattle.exact.proofs.Accepted.{facts}
@@ -22,7 +20,7 @@ use Rattle.encounter.specs.declared.steps.sides.PowerPairs.{PowerPairs}
 use Rattle.encounter.specs.declared.steps.sides.Pair.{Pair}
 use Rattle.encounter.specs.Private.Held.{HasT}
 use Rattle.encounter.specs.Private.Loops.{side_of, powers_of, next_r, PowersAt}
-use Rattle.encounter.proofs.steps.Pairs.{by_side}
+use Rattle.encounter.specs.Private.Operations.{by_side}
 
 -- ---- ranges
 
@@ -43,8 +41,8 @@ module _ (up : Bool) (E : Encounter) (k : ℕ) {t r : Scaled} {w : PowersOf Scal
   unfolding side_powers powers next_power
   next_r_is = rw (er, ew, et)
 
-  next_powers : {s : Scaled} → s ≡ round up 32 (value w.sum ⊕ value r) → record { r = r; sum = s } ≡ side_powers up E (suc k)
-  unfolding side_powers powers next_power rounded
+  next_powers : {s : Scaled} → s ≡ (rounded up 32).sum w.sum r → record { r = r; sum = s } ≡ side_powers up E (suc k)
+  unfolding side_powers powers next_power
   next_powers es = rw (es, er, ew, et)
 
 -- ---- both sides at k
@@ -69,7 +67,7 @@ module _ {E : Encounter} {k : ℕ} {t : Pair} {w : PowerPairs} (h : PowersAt E k
 
   -- one round
   pub next_at : {r s : Pair} → ((up : Bool) → side_of up r ≡ next_r up k (side_of up w.r) (side_of up t))
-      → ((up : Bool) → side_of up s ≡ round up 32 (value (side_of up w.sum) ⊕ value (side_of up r)))
+      → ((up : Bool) → side_of up s ≡ (rounded up 32).sum (side_of up w.sum) (side_of up r))
       → PowersAt E (suc k) t (record { r = r; sum = s })
   next_at er es = record { fine = h.fine; t_is = h.t_is; powers_are = λ up. next_powers up E k (h.t_is up) (h.powers_are up) (er up) (es up) }
 

@@ -4,7 +4,6 @@ use Rattle.std.specs.Prelude.{◌≡◌, Bool, true, false, cond, ℕ, suc, ◌�
 use Rattle.exact.specs.declared.Encounter.{Encounter}
 use Rattle.exact.specs.declared.Scaled.{Scaled}
 use Rattle.exact.specs.Numbers.{largest_order}
-use Rattle.exact.specs.declared.Traced.{Traced}
 use Rattle.exact.specs.Arithmetic.{traced}
 use Rattle.exact.specs.Steps.{LettersOf, TermsOf, next, side_letters, side_terms, d}
 use Rattle.exact.specs.Losses.{operand_lost, exact_terms, lossless}
@@ -16,8 +15,8 @@ use Rattle.encounter.specs.declared.state.Session.{Session}
 use Rattle.encounter.specs.declared.steps.counts.Counts.{Counts}
 use Rattle.encounter.specs.declared.steps.counts.Counting.{Counting}
 use Rattle.encounter.specs.declared.steps.losses.Losses.{Losses}
-use Rattle.encounter.specs.declared.steps.losses.TracedLetters.{TracedLetters}
-use Rattle.encounter.specs.declared.steps.losses.TracedTerms.{TracedTerms}
+use Rattle.encounter.specs.declared.steps.numbers.LetterSet.{LetterSet}
+use Rattle.encounter.specs.declared.steps.numbers.TermSet.{TermSet}
 use Rattle.encounter.specs.declared.steps.progress.Progress.{Progress}
 use Rattle.encounter.specs.Session.{state, conjunction_of}
 
@@ -33,12 +32,12 @@ held_terms s = record { c = s.c; p = s.p; v = s.v; y = s.y; sum = s.sum }
 abbrev pub step_terms : Terms → TermsOf Scaled
 step_terms s = record { c = s.c; p = s.p; v = s.v; y = s.y; sum = s.sum }
 
--- the same, each with whether something was lost on its way
-abbrev pub way_letters : TracedLetters → LettersOf Traced
-way_letters l = record { u = l.u; h = l.h; X = l.X; Y = l.Y; t = l.t }
+-- letters and terms over any numbers
+abbrev pub set_letters : {S : Type 0} → LetterSet S → LettersOf S
+set_letters l = record { u = l.u; h = l.h; X = l.X; Y = l.Y; t = l.t }
 
-abbrev pub way_terms : TracedTerms → TermsOf Traced
-way_terms s = record { c = s.c; p = s.p; v = s.v; y = s.y; sum = s.sum }
+abbrev pub set_terms : {S : Type 0} → TermSet S → TermsOf S
+set_terms s = record { c = s.c; p = s.p; v = s.v; y = s.y; sum = s.sum }
 
 -- one index on, from letters l and terms s of index n on whose way nothing was lost: what was lost on the way to the term, and to what the next one is formed of
 pub record CleanLosses (up : Bool) (l : LettersOf Scaled) (s : TermsOf Scaled) (n : ℕ) (r : Losses) : Type 0 where

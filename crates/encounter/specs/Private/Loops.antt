@@ -15,13 +15,16 @@ use Rattle.encounter.specs.declared.arithmetic.wide.Wide.{Wide}
 use Rattle.encounter.specs.declared.arithmetic.wide.Rounded.{Rounded}
 use Rattle.encounter.specs.declared.arithmetic.wide.Reciprocal.{Reciprocal}
 use Rattle.encounter.specs.declared.steps.sides.Pair.{Pair}
-use Rattle.encounter.specs.declared.steps.sides.LetterPairs.{LetterPairs}
-use Rattle.encounter.specs.declared.steps.sides.TermPairs.{TermPairs}
+use Rattle.encounter.specs.declared.steps.numbers.LetterSet.{LetterSet}
+use Rattle.encounter.specs.declared.steps.numbers.TermSet.{TermSet}
 use Rattle.encounter.specs.declared.steps.sides.PowerPairs.{PowerPairs}
 
 -- the same m and e
 abbrev pub narrow : Wide → Scaled
 narrow x = scaled x.m x.e
+
+abbrev pub wide : Scaled → Wide
+wide x = record { m = x.m; e = x.e }
 
 -- h, or the whole number above it where a rest is left and the direction is up
 unfoldable pub whole_part : Bool → ℕ → Bool → ℕ
@@ -59,10 +62,10 @@ abbrev pub side_of : Bool → Pair → Scaled
 side_of false b = narrow b.lower
 side_of true b = narrow b.upper
 
-abbrev pub letters_of : Bool → LetterPairs → LettersOf Scaled
+abbrev pub letters_of : Bool → LetterSet Pair → LettersOf Scaled
 letters_of up l = record { u = side_of up l.u; h = side_of up l.h; X = side_of up l.X; Y = side_of up l.Y; t = side_of up l.t }
 
-abbrev pub terms_of : Bool → TermPairs → TermsOf Scaled
+abbrev pub terms_of : Bool → TermSet Pair → TermsOf Scaled
 terms_of up s = record { c = side_of up s.c; p = side_of up s.p; v = side_of up s.v; y = side_of up s.y; sum = side_of up s.sum }
 
 abbrev pub powers_of : Bool → PowerPairs → PowersOf Scaled

@@ -1,10 +1,10 @@
 // The count of exact terms, taken on term by term while nothing is lost (request #105 of document 02).
-ghost use Rattle.std.specs.Prelude.{◌≡◌, ◌&&◌, suc, ◌+◌, ◌≤◌, ◌<◌, ltb};
+ghost use Rattle.std.specs.Prelude.{◌≡◌, suc, ◌+◌, ◌≤◌, ◌<◌};
 ghost use Rattle.exact.specs.Numbers.{largest_order};
 ghost use Rattle.encounter.specs.Private.Held.{counts, counting, Begun};
 
 use crate::state::{Session, Terms};
-use crate::steps::losses::{either_side, none_lost, side_step};
+use crate::steps::losses::{either_side, side_step};
 
 // How many of the first terms are exact, and 1 where nothing was lost on the way to what the next term is formed of, else 0.
 #[derive(Clone, Copy)]
@@ -26,16 +26,13 @@ fn next_counting(s: Session, w: Counting, n: u64) -> Counting
     requires { (Begun s) × (n < largest_order) × (w ≡ counting s.encounter n) × (0 < w.counts.lossless) }
     ensures { result ≡ counting s.encounter (suc n) }
 {
-    let below = s.lower;
-    let above = s.upper;
-    let one = side_step(false, below.letters, w.lower, n);
-    let other = side_step(true, above.letters, w.upper, n);
-    let lost = either_side(one.losses, other.losses);
-    let exact = w.counts.exact + none_lost(lost.term);
-    let lossless = none_lost(lost.operand);
-    let counts = Counts { exact, lossless };
-    let lower = one.terms;
-    let upper = other.terms;
+    let (lower, below) = side_step(false, s.lower.letters, w.lower, n);
+    let (upper, above) = side_step(true, s.upper.letters, w.upper, n);
+    let lost = either_side(below, above);
+    let counts = Counts {
+        exact: w.counts.exact + u32::from(!lost.term),
+        lossless: u32::from(!lost.operand),
+    };
     Counting {
         lower,
         upper,
@@ -43,38 +40,26 @@ fn next_counting(s: Session, w: Counting, n: u64) -> Counting
     }
 }
 
-// Whether a term may be exact, where n is the index before it and the last index is `limit`.
-fn may_be_exact(lossless: u32, n: u64, limit: u64) -> bool
-    ensures { result ≡ (ltb 0 lossless && ltb n limit) }
-{
-    if lossless == 0 {
-        return false;
-    }
-    n < limit
-}
-
 // The counts `count` terms on.
 pub fn counts_after(s: Session, count: u32) -> Counts
     requires { (Begun s) × (s.N + count ≤ largest_order) }
     ensures { result ≡ counts s.encounter (s.N + count) }
 {
-    let below = s.lower;
-    let above = s.upper;
-    let lower = below.terms;
-    let upper = above.terms;
-    let exact = s.exact;
-    let lossless = s.lossless;
-    let counts = Counts { exact, lossless };
     let mut w = Counting {
-        lower,
-        upper,
-        counts,
+        lower: s.lower.terms,
+        upper: s.upper.terms,
+        counts: Counts {
+            exact: s.exact,
+            lossless: s.lossless,
+        },
     };
+    let first = (s.N - 1) as u64;
     let limit = (s.N + count - 1) as u64;
-    let mut n = (s.N - 1) as u64;
-    while may_be_exact(w.counts.lossless, n, limit) {
+    for n in first..limit {
+        if w.counts.lossless == 0 {
+            break;
+        }
         w = next_counting(s, w, n);
-        n += 1;
     }
     w.counts
 }

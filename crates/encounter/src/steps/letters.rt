@@ -1,19 +1,19 @@
 // One side's letters, and the rounded c(0), each with whether something was lost on its way; and M.
-ghost use Rattle.std.specs.Prelude.{◌≡◌, true, ◌-◌, ◌*◌, ◌≤◌, ◌<◌, nat_abs};
+ghost use Rattle.std.specs.Prelude.{◌≡◌, true, ◌-◌, ◌*◌, ◌≤◌, ◌<◌};
 ghost use Rattle.exact.specs.Fraction.{◌over◌};
 ghost use Rattle.exact.specs.Numbers.{largest_length};
 ghost use Rattle.exact.specs.Arithmetic.{rounded, traced};
 ghost use Rattle.exact.specs.Losses.{letter_numbers, traced_letters};
-ghost use Rattle.exact.specs.Private.Ranges.{InRange, Bounds, LettersIn};
+ghost use Rattle.exact.specs.Private.Ranges.{Bounds, LettersIn};
 ghost use Rattle.exact.specs.Series.{u, b, zx, zy, g};
 ghost use Rattle.exact.specs.Steps.{bound as bound_of, start as start_of};
-ghost use Rattle.encounter.specs.Private.Held.{step_letters, way_letters};
+ghost use Rattle.encounter.specs.Private.Held.{step_letters, set_letters};
 
 use crate::arithmetic::scaled;
 use crate::arithmetic::scaled::{halved, ratio};
 use crate::arithmetic::traced::{product, sum};
 use crate::state::Letters;
-use crate::steps::losses::TracedLetters;
+use crate::steps::numbers::LetterSet;
 use exact::{Encounter, Scaled, Traced};
 
 // x × y of lengths in centimetres.
@@ -21,18 +21,7 @@ fn times(x: u32, y: u32) -> u64
     requires { (x ≤ largest_length) × (y ≤ largest_length) }
     ensures { (result ≡ x * y) × (result ≤ largest_length * largest_length) }
 {
-    (x as u64) * (y as u64)
-}
-
-// |z|, of a miss that passed test 6.
-fn magnitude(z: i32) -> u32
-    requires { nat_abs z ≤ largest_length }
-    ensures { result ≡ nat_abs z }
-{
-    if z < 0 {
-        return (0 - z) as u32;
-    }
-    z as u32
+    u64::from(x) * u64::from(y)
 }
 
 // x² / (2y²).
@@ -61,14 +50,6 @@ pub fn start(up: bool, E: Encounter) -> Traced
     ratio(up, times(E.R, E.R), 2 * times(E.sx, E.sy))
 }
 
-// zx + zy + u.
-fn three(up: bool, zx: Traced, zy: Traced, u: Traced) -> Traced
-    requires { (InRange 32 177 zx.number) × (InRange 32 177 zy.number) × (InRange 32 177 u.number) }
-    ensures { result ≡ (traced up 32).sum ((traced up 32).sum zx zy) u }
-{
-    sum(up, sum(up, zx, zy), u)
-}
-
 // What the letters are formed of.
 #[derive(Clone, Copy)]
 struct Parts {
@@ -83,28 +64,27 @@ fn fractions(up: bool, E: Encounter) -> Parts
     requires { Bounds E }
     ensures { (result.u ≡ (traced up 32).fraction (u E)) × (result.b ≡ (traced up 32).fraction (b E)) × (result.zx ≡ (traced up 32).fraction (zx E)) × (result.zy ≡ (traced up 32).fraction (zy E)) × (result.g ≡ (traced up 32).fraction (g E)) }
 {
-    let R = E.R;
-    let sx = E.sx;
-    let sy = E.sy;
-    let u = squares(up, R, sy);
-    let b = squares(up, R, sx);
-    let zx = squares(up, magnitude(E.xm), sx);
-    let zy = squares(up, magnitude(E.ym), sy);
-    let g = excess(up, sx, sy);
-    Parts { u, b, zx, zy, g }
+    Parts {
+        u: squares(up, E.R, E.sy),
+        b: squares(up, E.R, E.sx),
+        zx: squares(up, E.xm.unsigned_abs(), E.sx),
+        zy: squares(up, E.ym.unsigned_abs(), E.sy),
+        g: excess(up, E.sx, E.sy),
+    }
 }
 
-pub fn letters(up: bool, E: Encounter) -> TracedLetters
+pub fn letters(up: bool, E: Encounter) -> LetterSet<Traced>
     requires { Bounds E }
-    ensures { (way_letters result ≡ traced_letters up E) × (LettersIn (letter_numbers (way_letters result))) }
+    ensures { (set_letters result ≡ traced_letters up E) × (LettersIn (letter_numbers (set_letters result))) }
 {
     let f = fractions(up, E);
-    let u = f.u;
-    let h = product(up, u, f.g);
-    let X = product(up, f.zx, f.b);
-    let Y = product(up, f.zy, u);
-    let t = three(up, f.zx, f.zy, u);
-    TracedLetters { u, h, X, Y, t }
+    LetterSet {
+        u: f.u,
+        h: product(up, f.u, f.g),
+        X: product(up, f.zx, f.b),
+        Y: product(up, f.zy, f.u),
+        t: sum(up, sum(up, f.zx, f.zy), f.u),
+    }
 }
 
 // M.
@@ -112,12 +92,7 @@ pub fn bound(l: Letters) -> Scaled
     requires { LettersIn (step_letters l) }
     ensures { result ≡ bound_of (rounded true 32) (step_letters l) }
 {
-    let u = l.u;
-    let h = l.h;
-    let X = l.X;
-    let Y = l.Y;
-    let a = scaled::sum(true, u, halved(h));
-    let b = scaled::sum(true, a.number, X);
-    let M = scaled::sum(true, b.number, Y);
-    M.number
+    let a = scaled::sum(true, l.u, halved(l.h));
+    let b = scaled::sum(true, a.number, l.X);
+    scaled::sum(true, b.number, l.Y).number
 }

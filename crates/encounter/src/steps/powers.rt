@@ -7,7 +7,8 @@ ghost use Rattle.exact.specs.Steps.{exponential_sum, r256 as r256_of};
 ghost use Rattle.encounter.specs.Private.Held.{HasT};
 ghost use Rattle.encounter.specs.Private.Loops.{side_of, next_r, PowersAt};
 
-use crate::steps::sides::{Pair, PowerPairs, overs, pair_of, products, side, sums};
+use crate::steps::numbers::Operations;
+use crate::steps::sides::{BothSides, Pair, PowerPairs, pair_of, side};
 use exact::{EXPONENTIAL_CUT, Scaled};
 
 // The last k that is summed.
@@ -18,7 +19,7 @@ fn next_r(t: Pair, r: Pair, k: u64) -> Pair
     requires { (k < exponential_cut) × ((up : Bool) → (InRange 32 387 (side_of up t)) × (InRange 32 largest_exponent (side_of up r))) }
     ensures { (up : Bool) → side_of up result ≡ next_r up k (side_of up r) (side_of up t) }
 {
-    overs(products(r, t), k + 1)
+    BothSides.over(BothSides.product(r, t), k + 1)
 }
 
 // One round (request #102 of document 02): r and the sum of both sides, from an encounter's numbers at k to the same encounter's at k + 1.
@@ -27,7 +28,7 @@ fn one_round(t: Pair, w: PowerPairs, k: u64) -> PowerPairs
     ensures { (E : Encounter) → PowersAt E k t w → PowersAt E (suc k) t result }
 {
     let r = next_r(t, w.r, k);
-    let sum = sums(w.sum, r);
+    let sum = BothSides.sum(w.sum, r);
     PowerPairs { r, sum }
 }
 
@@ -37,10 +38,8 @@ fn rounds(t: Pair, first: PowerPairs) -> PowerPairs
     ensures { (E : Encounter) → PowersAt E 0 t first → PowersAt E (pred exponential_cut) t result }
 {
     let mut w = first;
-    let mut k: u64 = 0;
-    while k < LAST {
+    for k in 0..LAST {
         w = one_round(t, w, k);
-        k += 1;
     }
     w
 }
@@ -63,8 +62,9 @@ pub fn exponential_sums(a: Scaled, b: Scaled) -> Exponentials
     let one = pair_of(Scaled::ONE, Scaled::ONE);
     let w = rounds(t, PowerPairs { r: one, sum: one });
     let last = one_round(t, w, LAST);
-    let lower = side(false, w.sum);
-    let upper = side(true, w.sum);
-    let r256 = side(true, last.r);
-    Exponentials { lower, upper, r256 }
+    Exponentials {
+        lower: side(false, w.sum),
+        upper: side(true, w.sum),
+        r256: side(true, last.r),
+    }
 }

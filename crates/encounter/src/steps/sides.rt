@@ -1,40 +1,21 @@
 // Both sides' numbers together, each operation D on the lower side and U on the upper.
-ghost use Rattle.std.specs.Prelude.{◌≡◌, Bool, true, false, ◌^◌, ◌<◌};
-ghost use Rattle.exact.specs.Fraction.{◌⊕◌, ◌⊗◌, ◌÷◌};
-ghost use Rattle.exact.specs.Scaled.{value, half};
+ghost use Rattle.std.specs.Prelude.{◌≡◌, true, false, ◌^◌};
 ghost use Rattle.exact.specs.Private.Ranges.{largest_exponent, InRange, TermsIn};
-ghost use Rattle.exact.specs.Private.Round.{round};
 ghost use Rattle.encounter.specs.Private.Held.{step_letters, step_terms, held_terms};
-ghost use Rattle.encounter.specs.Private.Loops.{narrow, side_of, letters_of, terms_of, IsReciprocal};
+ghost use Rattle.encounter.specs.Private.Operations.{both, both_keeps, PairIn};
+ghost use Rattle.encounter.specs.Private.Loops.{side_of, letters_of, terms_of, IsReciprocal};
 
 use crate::arithmetic::wide::{
-    Reciprocal, Rounded, Wide, halved, narrowed, over, over_by, product, sum, widen,
+    Reciprocal, Wide, halved, narrowed, over, over_by, product, reciprocal_of, sum, widen,
 };
 use crate::state::{Letters, Terms};
+use crate::steps::numbers::{LetterSet, Operations, TermSet};
 use exact::Scaled;
 
 #[derive(Clone, Copy)]
 pub struct Pair {
     pub lower: Wide,
     pub upper: Wide,
-}
-
-#[derive(Clone, Copy)]
-pub struct LetterPairs {
-    pub u: Pair,
-    pub h: Pair,
-    pub X: Pair,
-    pub Y: Pair,
-    pub t: Pair,
-}
-
-#[derive(Clone, Copy)]
-pub struct TermPairs {
-    pub c: Pair,
-    pub p: Pair,
-    pub v: Pair,
-    pub y: Pair,
-    pub sum: Pair,
 }
 
 // r(k), and the sum of r(0) to r(k).
@@ -47,31 +28,34 @@ pub struct PowerPairs {
 pub fn pair_of(lower: Scaled, upper: Scaled) -> Pair
     ensures { (side_of false result ≡ lower) × (side_of true result ≡ upper) }
 {
-    let lower = widen(lower);
-    let upper = widen(upper);
-    Pair { lower, upper }
+    Pair {
+        lower: widen(lower),
+        upper: widen(upper),
+    }
 }
 
-pub fn letter_pairs(a: Letters, b: Letters) -> LetterPairs
+pub fn letter_pairs(a: Letters, b: Letters) -> LetterSet<Pair>
     ensures { (letters_of false result ≡ step_letters a) × (letters_of true result ≡ step_letters b) }
 {
-    let u = pair_of(a.u, b.u);
-    let h = pair_of(a.h, b.h);
-    let X = pair_of(a.X, b.X);
-    let Y = pair_of(a.Y, b.Y);
-    let t = pair_of(a.t, b.t);
-    LetterPairs { u, h, X, Y, t }
+    LetterSet {
+        u: pair_of(a.u, b.u),
+        h: pair_of(a.h, b.h),
+        X: pair_of(a.X, b.X),
+        Y: pair_of(a.Y, b.Y),
+        t: pair_of(a.t, b.t),
+    }
 }
 
-pub fn term_pairs(a: Terms, b: Terms) -> TermPairs
+pub fn term_pairs(a: Terms, b: Terms) -> TermSet<Pair>
     ensures { (terms_of false result ≡ step_terms a) × (terms_of true result ≡ step_terms b) }
 {
-    let c = pair_of(a.c, b.c);
-    let p = pair_of(a.p, b.p);
-    let v = pair_of(a.v, b.v);
-    let y = pair_of(a.y, b.y);
-    let sum = pair_of(a.sum, b.sum);
-    TermPairs { c, p, v, y, sum }
+    TermSet {
+        c: pair_of(a.c, b.c),
+        p: pair_of(a.p, b.p),
+        v: pair_of(a.v, b.v),
+        y: pair_of(a.y, b.y),
+        sum: pair_of(a.sum, b.sum),
+    }
 }
 
 pub fn side(up: bool, b: Pair) -> Scaled
@@ -79,73 +63,80 @@ pub fn side(up: bool, b: Pair) -> Scaled
     ensures { result ≡ side_of up b }
 {
     if up {
-        return narrowed(b.upper);
+        narrowed(b.upper)
+    } else {
+        narrowed(b.lower)
     }
-    narrowed(b.lower)
 }
 
-pub fn side_terms(up: bool, s: TermPairs) -> Terms
+pub fn side_terms(up: bool, s: TermSet<Pair>) -> Terms
     requires { TermsIn largest_exponent (terms_of up s) }
     ensures { result ≡ held_terms (terms_of up s) }
 {
-    let c = side(up, s.c);
-    let p = side(up, s.p);
-    let v = side(up, s.v);
-    let y = side(up, s.y);
-    let sum = side(up, s.sum);
-    Terms { c, p, v, y, sum }
+    Terms {
+        c: side(up, s.c),
+        p: side(up, s.p),
+        v: side(up, s.v),
+        y: side(up, s.y),
+        sum: side(up, s.sum),
+    }
 }
 
-// Both sides' results, without their losses.
-fn numbers(below: Rounded, above: Rounded) -> Pair
-    ensures { (side_of false result ≡ narrow below.number) × (side_of true result ≡ narrow above.number) }
-{
-    let lower = below.number;
-    let upper = above.number;
-    Pair { lower, upper }
-}
+// Both sides' operations: D on the lower side, U on the upper.
+#[derive(Clone, Copy)]
+pub struct BothSides;
 
-pub fn products(a: Pair, b: Pair) -> Pair
-    requires { (up : Bool) → (InRange 32 (2 ^ 28) (side_of up a)) × (InRange 32 (2 ^ 28) (side_of up b)) }
-    ensures { (up : Bool) → side_of up result ≡ round up 32 (value (side_of up a) ⊗ value (side_of up b)) }
-{
-    let below = product(false, a.lower, b.lower);
-    let above = product(true, a.upper, b.upper);
-    numbers(below, above)
-}
+impl Operations for BothSides {
+    type Number = Pair;
 
-pub fn sums(a: Pair, b: Pair) -> Pair
-    requires { (up : Bool) → (InRange 32 (2 ^ 28) (side_of up a)) × (InRange 32 (2 ^ 28) (side_of up b)) }
-    ensures { (up : Bool) → side_of up result ≡ round up 32 (value (side_of up a) ⊕ value (side_of up b)) }
-{
-    let below = sum(false, a.lower, b.lower);
-    let above = sum(true, a.upper, b.upper);
-    numbers(below, above)
-}
+    type Divisor = Reciprocal;
 
-pub fn overs(a: Pair, k: u64) -> Pair
-    requires { ((up : Bool) → InRange 32 (2 ^ 28) (side_of up a)) × (0 < k) × (k < 2 ^ 32) }
-    ensures { (up : Bool) → side_of up result ≡ round up 32 (value (side_of up a) ÷ k) }
-{
-    let below = over(false, a.lower, k);
-    let above = over(true, a.upper, k);
-    numbers(below, above)
-}
+    ghost arithmetic = { λ x. both };
 
-pub fn overs_by(a: Pair, by: Reciprocal) -> Pair
-    requires { ((up : Bool) → InRange 32 (2 ^ 28) (side_of up a)) × IsReciprocal by }
-    ensures { (up : Bool) → side_of up result ≡ round up 32 (value (side_of up a) ÷ by.k) }
-{
-    let below = over_by(false, a.lower, by);
-    let above = over_by(true, a.upper, by);
-    numbers(below, above)
-}
+    ghost within = { PairIn };
 
-pub fn halves(a: Pair) -> Pair
-    requires { (up : Bool) → InRange 32 (2 ^ 28) (side_of up a) }
-    ensures { (up : Bool) → side_of up result ≡ half (side_of up a) }
-{
-    let lower = halved(a.lower);
-    let upper = halved(a.upper);
-    Pair { lower, upper }
+    ghost whole = { λ by. by.k };
+
+    ghost divides = { IsReciprocal };
+
+    ghost keeps = { λ x. both_keeps };
+
+    fn product(self, a: Pair, b: Pair) -> Pair {
+        Pair {
+            lower: product(false, a.lower, b.lower).number,
+            upper: product(true, a.upper, b.upper).number,
+        }
+    }
+
+    fn sum(self, a: Pair, b: Pair) -> Pair {
+        Pair {
+            lower: sum(false, a.lower, b.lower).number,
+            upper: sum(true, a.upper, b.upper).number,
+        }
+    }
+
+    fn half(self, a: Pair) -> Pair {
+        Pair {
+            lower: halved(a.lower),
+            upper: halved(a.upper),
+        }
+    }
+
+    fn over(self, a: Pair, k: u64) -> Pair {
+        Pair {
+            lower: over(false, a.lower, k).number,
+            upper: over(true, a.upper, k).number,
+        }
+    }
+
+    fn divisor(self, k: u64) -> Reciprocal {
+        reciprocal_of(k)
+    }
+
+    fn over_by(self, a: Pair, by: Reciprocal) -> Pair {
+        Pair {
+            lower: over_by(false, a.lower, by).number,
+            upper: over_by(true, a.upper, by).number,
+        }
+    }
 }

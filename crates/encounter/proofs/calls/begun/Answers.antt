@@ -17,22 +17,22 @@ use Rattle.exact.proofs.Growth.{bound_in}
 use Rattle.exact.proofs.Exponents.{in_range}
 use Rattle.exact.proofs.Losses.{letters_number}
 use Rattle.encounter.specs.declared.state.Letters.{Letters}
-use Rattle.encounter.specs.declared.steps.losses.TracedLetters.{TracedLetters}
+use Rattle.encounter.specs.declared.steps.numbers.LetterSet.{LetterSet}
 use Rattle.encounter.specs.declared.state.Session.{Session}
 use Rattle.encounter.specs.Session.{state, counted}
-use Rattle.encounter.specs.Private.Held.{held_letters, step_letters, way_letters}
+use Rattle.encounter.specs.Private.Held.{held_letters, step_letters, set_letters}
 use Rattle.encounter.proofs.steps.Opening.{numbers_fine, bound_is}
 use Rattle.encounter.proofs.calls.Answering.{begin_early, begin_7, begin_11, begin_taken, passed_bounds, accepted, positive}
 use borrow.Author.Rules.{rules}
 use Rattle.encounter.proofs.calls.begun.Goals as goal
 
 -- the upper t, without what was lost on its way
-upper-t : (E : Encounter) {l : TracedLetters} → way_letters l ≡ traced_letters true E → l.t.number ≡ (side_letters true E).t
+upper-t : (E : Encounter) {l : LetterSet Traced} → set_letters l ≡ traced_letters true E → l.t.number ≡ (side_letters true E).t
 upper-t E e = ap (λ (l : LettersOf Traced). l.t.number) e ∙ ap (λ (l : LettersOf Scaled). l.t) (letters_number true E)
 
 -- tests 7 and 11, as the code makes them
 module _ (E : Encounter) {r x : Bool} (k : r ≡ x) where
-  test-7 : {l : TracedLetters} → way_letters l ≡ traced_letters true E → r ≡ at_most (value l.t.number) (whole largest_t) → refuses_7 E ≡ not x
+  test-7 : {l : LetterSet Traced} → set_letters l ≡ traced_letters true E → r ≡ at_most (value l.t.number) (whole largest_t) → refuses_7 E ≡ not x
   unfolding refuses_7 above
   test-7 {l} e g =
       let same : at_most (value l.t.number) (whole largest_t) ≡ at_most (value (side_letters true E).t) (whole largest_t) = rw (upper-t E e) in
@@ -50,9 +50,9 @@ record Formed (E : Encounter) (m : Scaled) : Type 0 where
   t-passes : refuses_7 E ≡ false
   M_is : m ≡ M E
 
-formed : (E : Encounter) {l : TracedLetters} {ln : Letters} {m : Scaled} {r : Bool} → 0 ≡ tests_3_to_6 E 0
-    → way_letters l ≡ traced_letters true E → r ≡ at_most (value l.t.number) (whole largest_t) → r ≡ true
-    → ln ≡ held_letters (letter_numbers (way_letters l)) → m ≡ bound (rounded true 32) (step_letters ln) → Formed E m
+formed : (E : Encounter) {l : LetterSet Traced} {ln : Letters} {m : Scaled} {r : Bool} → 0 ≡ tests_3_to_6 E 0
+    → set_letters l ≡ traced_letters true E → r ≡ at_most (value l.t.number) (whole largest_t) → r ≡ true
+    → ln ≡ held_letters (letter_numbers (set_letters l)) → m ≡ bound (rounded true 32) (step_letters ln) → Formed E m
 formed E en el et t eln em = record { inputs = sym en; t-passes = test-7 E t el et; M_is = bound_is E el eln em }
 
 pub returns-in_err-test_inputs : goal.returns-in_err-test_inputs

@@ -8,4 +8,4 @@ first_terms-s-requires c =
 pub returns : goal.returns
 returns c =
     opens c.args.up c.args.E c.requires.1 c.requires.2 c.start.ensures c.first_terms-s.ensures
-    c.letter_numbers-letters.ensures c.term_numbers-terms.ensures c.losses_at-losses.ensures
+    c.letter_numbers.ensures c.term_numbers.ensures c.losses_at.ensures

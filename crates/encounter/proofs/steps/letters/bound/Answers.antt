@@ -18,8 +18,8 @@ sum-b-requires c =
     let a = sum_of true (number_of true _ _ c.sum-a.ensures) (widen (lit≤ tt) c.requires.u) (half_of c.halved.ensures c.requires.h) in
     (widen (lit≤ tt) a, widen (lit≤ tt) c.requires.X)
 
-pub sum-M-requires : goal.sum-M-requires
-sum-M-requires c =
+pub sum-requires : goal.sum-requires
+sum-requires c =
     let a = sum_of true (number_of true _ _ c.sum-a.ensures) (widen (lit≤ tt) c.requires.u) (half_of c.halved.ensures c.requires.h) in
     let b = sum_of true (number_of true _ _ c.sum-b.ensures) a (widen (lit≤ tt) c.requires.X) in
     (widen (lit≤ tt) b, widen (lit≤ tt) c.requires.Y)
@@ -28,7 +28,7 @@ pub returns : goal.returns
 unfolding bound rounded
 returns c =
     rw (
-      number_of true _ _ c.sum-M.ensures,
+      number_of true _ _ c.sum.ensures,
       number_of true _ _ c.sum-b.ensures,
       number_of true _ _ c.sum-a.ensures,
       c.halved.ensures,

@@ -3,4 +3,4 @@ use Rattle.encounter.proofs.steps.losses.first_terms.Goals as goal
 
 pub returns : goal.returns
 unfolding first
-returns c = rw c.product-p.ensures
+returns c = rw c.product.ensures

@@ -15,18 +15,18 @@ one_round-last-requires c =
     let w = c.rounds-w.ensures c.requires.0 (first_at c.requires.1 c.pair_of-t.ensures c.pair_of-one.ensures) in
     (lit< tt, (c.requires.0, w))
 
-pub side-lower-requires : goal.side-lower-requires
-side-lower-requires c =
+pub side-requires : goal.side-requires
+side-requires c =
     let w = c.rounds-w.ensures c.requires.0 (first_at c.requires.1 c.pair_of-t.ensures c.pair_of-one.ensures) in
     widen (lit≤ tt) (powers_held w (lit≤ tt) false).sum
 
-pub side-upper-requires : goal.side-upper-requires
-side-upper-requires c =
+pub side-requires-2 : goal.side-requires-2
+side-requires-2 c =
     let w = c.rounds-w.ensures c.requires.0 (first_at c.requires.1 c.pair_of-t.ensures c.pair_of-one.ensures) in
     widen (lit≤ tt) (powers_held w (lit≤ tt) true).sum
 
-pub side-r256-requires : goal.side-r256-requires
-side-r256-requires c =
+pub side-requires-3 : goal.side-requires-3
+side-requires-3 c =
     let w = c.rounds-w.ensures c.requires.0 (first_at c.requires.1 c.pair_of-t.ensures c.pair_of-one.ensures) in
     widen (lit≤ tt) (powers_held (c.one_round-last.ensures c.requires.0 w) (lit≤ tt) true).r
 
@@ -36,7 +36,7 @@ returns c =
     λ E h.
     let w = c.rounds-w.ensures E (first_at h c.pair_of-t.ensures c.pair_of-one.ensures) in
     let last = c.one_round-last.ensures E w in (
-      c.side-lower.ensures ∙ ap (λ (w : PowersOf Scaled). w.sum) (w.powers_are false),
-      c.side-upper.ensures ∙ ap (λ (w : PowersOf Scaled). w.sum) (w.powers_are true),
-      c.side-r256.ensures ∙ ap (λ (w : PowersOf Scaled). w.r) (last.powers_are true),
+      c.side.ensures ∙ ap (λ (w : PowersOf Scaled). w.sum) (w.powers_are false),
+      c.side-2.ensures ∙ ap (λ (w : PowersOf Scaled). w.sum) (w.powers_are true),
+      c.side-3.ensures ∙ ap (λ (w : PowersOf Scaled). w.r) (last.powers_are true),
     )

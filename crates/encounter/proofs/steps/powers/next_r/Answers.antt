@@ -1,18 +1,17 @@
 use native.Mathlib.Numerals.{add-one}
 use native.Mathlib.Omega.{arith}
 use lib.Dec.{lit≤}
-use Rattle.exact.specs.Arithmetic.{rounded}
 use Rattle.exact.proofs.Ranges.{widen}
-use Rattle.encounter.proofs.arithmetic.Fitting.{product_of}
+use Rattle.exact.proofs.Exponents.{in_range}
+use Rattle.encounter.proofs.steps.BothSides.{product_side, quotient_side}
 use Rattle.encounter.proofs.steps.powers.next_r.Goals as goal
 
-pub products-requires : goal.products-requires
-products-requires c = λ up. (widen (lit≤ tt) (c.requires.1 up).1, widen (lit≤ tt) (c.requires.1 up).0)
+pub product-requires : goal.product-requires
+product-requires c = (λ up. widen (lit≤ tt) (c.requires.1 up).1, λ up. widen (lit≤ tt) (c.requires.1 up).0)
 
-pub overs-requires : goal.overs-requires
-overs-requires c =
-    ((λ up. widen (lit≤ tt) (product_of up (c.products.ensures up) (c.requires.1 up).1 (c.requires.1 up).0)), omega arith, omega (arith, c.requires.0))
+pub over-requires : goal.over-requires
+over-requires c =
+    ((λ up. rw (product_side up _ _ c.product.ensures) (widen (lit≤ tt) ((in_range up).product (c.requires.1 up).1 (c.requires.1 up).0))), omega arith, omega (arith, c.requires.0))
 
 pub returns : goal.returns
-unfolding rounded
-returns c = λ up. rw (c.overs.ensures up, c.products.ensures up, add-one)
+returns c = λ up. rw (quotient_side up _ _ c.over.ensures, product_side up _ _ c.product.ensures, add-one)

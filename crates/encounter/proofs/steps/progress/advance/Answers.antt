@@ -6,77 +6,51 @@ use lib.Dec.{lit≤}
 use Rattle.exact.specs.Numbers.{largest_order}
 use Rattle.exact.proofs.Ranges.{widen}
 use Rattle.encounter.specs.Private.Held.{progress}
+use Rattle.encounter.proofs.steps.BothSides.{letters_both, terms_both, next_side}
 use Rattle.encounter.proofs.steps.Progressing.{start_holds, letters_held, bound_held, terms_held, tail_held, next_holds, holds_progress}
 use Rattle.encounter.proofs.steps.progress.advance.Goals as goal
 
-pub overflow_add-limit : goal.overflow_add-limit
-overflow_add-limit c = record { fits = omega (arith, c.requires.1) }
-
-pub overflow_sub-limit : goal.overflow_sub-limit
-overflow_sub-limit c = omega (arith, c.requires.0.low)
-
-pub overflow_cast-limit : goal.overflow_cast-limit
-overflow_cast-limit c = record { fits = omega (arith, c.requires.1) }
-
-pub overflow_sub-n : goal.overflow_sub-n
-overflow_sub-n c = c.requires.0.low
-
-pub overflow_cast-n : goal.overflow_cast-n
-overflow_cast-n c = record { fits = omega (arith, c.requires.1) }
-
 pub loop-n-init : goal.loop-n-init
-loop-n-init c = (omega (arith, c.requires.0.low), omega (arith, c.requires.1), λ E h. h)
+loop-n-init c = start_holds c.args.s c.requires.0 c.letter_pairs-l.ensures c.widen-M.ensures c.term_pairs-t.ensures c.widen-d.ensures
+
+-- in the loop, which ends at an index below the largest order
+below : (c : goal.In-loop-n) → c.loop-n.n < largest_order
+below c = omega (arith, c.requires.1, c.requires.0.low, c.loop-n-test.true)
 
 pub next_terms-t-requires : goal.next_terms-t-requires
 next_terms-t-requires c =
-    let e = c.numbers_of-w.ensures in
-    let h = c.loop-n.invariant.2 c.args.s.encounter (start_holds c.args.s c.requires.0 e.0 e.1 e.2 e.3) in
-    let l = c.loop-n in
-    let n : l.n < largest_order = omega (arith, l.invariant.1, c.loop-n-test.true) in
-    (n, letters_held c.requires.0 h, terms_held c.requires.0 h n)
-
-pub overflow_add-n : goal.overflow_add-n
-overflow_add-n c = record { fits = omega (arith, c.loop-n.invariant.1, c.loop-n-test.true) }
+    let h = c.loop-n.invariant in
+    (below c, letters_both (letters_held c.requires.0 h), terms_both (terms_held c.requires.0 h (below c)))
 
 pub next_tail-d-requires : goal.next_tail-d-requires
 next_tail-d-requires c =
-    let e = c.numbers_of-w.ensures in
-    let h = c.loop-n.invariant.2 c.args.s.encounter (start_holds c.args.s c.requires.0 e.0 e.1 e.2 e.3) in
-    let n : c.loop-n.n < largest_order = omega (arith, c.loop-n.invariant.1, c.loop-n-test.true) in
+    let h = c.loop-n.invariant in
+    let n = below c.before in
     (omega (arith, n), bound_held c.requires.0 h, tail_held c.requires.0 h n)
-
-pub overflow_add-n-in-loop-n : goal.overflow_add-n-in-loop-n
-overflow_add-n-in-loop-n c = record { fits = omega (arith, c.loop-n.invariant.1, c.loop-n-test.true) }
-
-pub loop-n-smaller : goal.loop-n-smaller
-loop-n-smaller c = omega (arith, c.loop-n-test.true)
 
 pub loop-n-preserved : goal.loop-n-preserved
 loop-n-preserved c =
     let l = c.loop-n in
-    (omega (arith, c.loop-n-test.true), l.invariant.1, λ E h. next_holds E l.n (l.invariant.2 E h) c.next_terms-t.ensures c.next_tail-d.ensures)
+    next_holds c.args.s.encounter l.n l.invariant (next_side _ l.n l.t c.next_terms-t.ensures) c.next_tail-d.ensures
 
-pub side_terms-lower-requires : goal.side_terms-lower-requires
-side_terms-lower-requires c =
-    let e = c.numbers_of-w.ensures in
-    let h = c.loop-n.invariant.2 c.args.s.encounter (start_holds c.args.s c.requires.0 e.0 e.1 e.2 e.3) in
-    terms_held c.requires.0 h (omega (arith, c.loop-n.invariant.0, c.loop-n.invariant.1)) false
+-- after it
+ended : (c : goal.After-loop-n) → c.loop-n.n ≡ c.args.s.N + c.args.count - 1
+ended c = omega (arith, c.loop-n.auto.n-end, c.loop-n-test.false)
 
-pub side_terms-upper-requires : goal.side_terms-upper-requires
-side_terms-upper-requires c =
-    let e = c.numbers_of-w.ensures in
-    let h = c.loop-n.invariant.2 c.args.s.encounter (start_holds c.args.s c.requires.0 e.0 e.1 e.2 e.3) in
-    terms_held c.requires.0 h (omega (arith, c.loop-n.invariant.0, c.loop-n.invariant.1)) true
+over : (c : goal.After-loop-n) → c.loop-n.n < largest_order
+over c = omega (arith, ended c, c.requires.1, c.requires.0.low)
 
-pub narrowed-d-requires : goal.narrowed-d-requires
-narrowed-d-requires c =
-    let e = c.numbers_of-w.ensures in
-    let h = c.loop-n.invariant.2 c.args.s.encounter (start_holds c.args.s c.requires.0 e.0 e.1 e.2 e.3) in
-    widen (lit≤ tt) (tail_held c.requires.0 h (omega (arith, c.loop-n.invariant.0, c.loop-n.invariant.1)))
+pub side_terms-requires : goal.side_terms-requires
+side_terms-requires c = terms_held c.requires.0 c.loop-n.invariant (over c) false
+
+pub side_terms-requires-2 : goal.side_terms-requires-2
+side_terms-requires-2 c = terms_held c.requires.0 c.loop-n.invariant (over c.before) true
+
+pub narrowed-requires : goal.narrowed-requires
+narrowed-requires c = widen (lit≤ tt) (tail_held c.requires.0 c.loop-n.invariant (over c.before.before))
 
 pub returns : goal.returns
 returns c =
-    let e = c.numbers_of-w.ensures in
-    let h = c.loop-n.invariant.2 c.args.s.encounter (start_holds c.args.s c.requires.0 e.0 e.1 e.2 e.3) in
-    let n : c.loop-n.n ≡ c.args.s.N + c.args.count - 1 = omega (arith, c.loop-n.invariant.0, c.loop-n-test.false) in
-    holds_progress c.args.s.encounter c.loop-n.n h c.side_terms-lower.ensures c.side_terms-upper.ensures c.narrowed-d.ensures ∙ ap (progress c.args.s.encounter) n
+    let h = c.loop-n.invariant in
+    holds_progress c.args.s.encounter c.loop-n.n h c.side_terms.ensures c.side_terms-2.ensures c.narrowed.ensures
+    ∙ ap (progress c.args.s.encounter) (ended c.before.before.before)

@@ -8,9 +8,9 @@ use Rattle.exact.proofs.Ranges.{widen}
 use Rattle.encounter.proofs.arithmetic.Fitting.{product_of}
 use Rattle.encounter.proofs.steps.terms.next_tail.Goals as goal
 
-pub over-r-requires : goal.over-r-requires
-over-r-requires c = (widen (lit≤ tt) (product_of true c.product-x.ensures.0 c.requires.2 c.requires.1), omega arith, omega (arith, c.requires.0))
+pub over-requires : goal.over-requires
+over-requires c = (widen (lit≤ tt) (product_of true c.product.ensures.0 c.requires.2 c.requires.1), omega arith, omega (arith, c.requires.0))
 
 pub returns : goal.returns
 unfolding next_d rounded
-returns c = rw (c.over-r.ensures.0, c.product-x.ensures.0, add-two)
+returns c = rw (c.over.ensures.0, c.product.ensures.0, add-two)

@@ -1,63 +1,82 @@
 use native.Mathlib.Numerals.{add-two}
-use native.Mathlib.Omega.{arith}
 use lib.Dec.{lit≤}
-use Rattle.exact.specs.Arithmetic.{rounded}
-use Rattle.exact.specs.Private.Ranges.{largest_exponent}
 use Rattle.exact.specs.Steps.{next_p, next_v, next_y, next}
-use Rattle.exact.proofs.Ranges.{widen}
-use Rattle.exact.proofs.Growth.{c_in}
-use Rattle.exact.proofs.Exponents.{in_range}
-use Rattle.encounter.proofs.arithmetic.Fitting.{product_of}
+use Rattle.encounter.proofs.steps.TermRanges.{times, times_fine, over_fine, plus_over_fine, next_in}
 use Rattle.encounter.proofs.steps.terms.next_terms.Goals as goal
 
-pub products-hv-requires : goal.products-hv-requires
-products-hv-requires c = λ up. (widen (lit≤ tt) (c.requires.1 up).h, widen (lit≤ tt) (c.requires.2 up).v)
+pub product-hv-requires : goal.product-hv-requires
+product-hv-requires g c =
+    let K = g.met.A.Operations.keeps c.args.x in
+    (K.more (lit≤ tt) c.requires.1.h, K.more (lit≤ tt) c.requires.2.v)
 
-pub products-hy-requires : goal.products-hy-requires
-products-hy-requires c = λ up. (widen (lit≤ tt) (c.requires.1 up).h, widen (lit≤ tt) (c.requires.2 up).y)
+pub product-hy-requires : goal.product-hy-requires
+product-hy-requires g c =
+    let K = g.met.A.Operations.keeps c.args.x in
+    (K.more (lit≤ tt) c.requires.1.h, K.more (lit≤ tt) c.requires.2.y)
 
-pub reciprocal_of-by-requires : goal.reciprocal_of-by-requires
-reciprocal_of-by-requires c = (omega arith, omega (arith, c.requires.0))
+pub over_by-requires : goal.over_by-requires
+over_by-requires g c =
+    let K = g.met.A.Operations.keeps c.args.x in
+    (K.more (lit≤ tt) c.requires.2.p, c.divisor-by.ensures.1)
 
-pub next_term-c-requires : goal.next_term-c-requires
-unfolding rounded
-next_term-c-requires c = (c.requires.0, c.requires.1, c.requires.2, c.products-hv.ensures)
+pub sum-requires : goal.sum-requires
+sum-requires g c =
+    let K = g.met.A.Operations.keeps c.args.x in
+    let (n, i, k) = c.requires in
+    rw (c.over_by.ensures, c.divisor-by.ensures.0) (K.more (lit≤ tt) (next_in K i k n c.next_term-c.ensures), over_fine K n (K.more (lit≤ tt) k.p))
 
-pub next_product-p-requires : goal.next_product-p-requires
-next_product-p-requires c = (
-  c.reciprocal_of-by.ensures.1,
-  (λ up. (c.requires.1 up).u),
-  (λ up. rw (c.next_term-c.ensures up) (widen (lit≤ tt) (c_in (in_range up) _ (c.requires.1 up) largest_exponent c.args.n c.requires.0 (c.requires.2 up)))),
-  (λ up. (c.requires.2 up).p),
-)
+pub product-p-requires : goal.product-p-requires
+product-p-requires g c =
+    let K = g.met.A.Operations.keeps c.args.x in
+    let (n, i, k) = c.requires in
+    rw (c.sum.ensures, c.over_by.ensures, c.divisor-by.ensures.0)
+    (K.more (lit≤ tt) i.u, plus_over_fine K n (next_in K i k n c.next_term-c.ensures) (K.more (lit≤ tt) k.p))
 
-pub next_v_and_y-w-requires : goal.next_v_and_y-w-requires
-next_v_and_y-w-requires c = (
-  c.reciprocal_of-by.ensures.1,
-  (λ up. rw (c.next_term-c.ensures up) (c_in (in_range up) _ (c.requires.1 up) largest_exponent c.args.n c.requires.0 (c.requires.2 up))),
-  (λ up. widen (lit≤ tt) (product_of up (c.products-hv.ensures up) (c.requires.1 up).h (c.requires.2 up).v)),
-  (λ up. widen (lit≤ tt) (product_of up (c.products-hy.ensures up) (c.requires.1 up).h (c.requires.2 up).y)),
-)
+pub over_by-requires-2 : goal.over_by-requires-2
+over_by-requires-2 g c =
+    let K = g.met.A.Operations.keeps c.args.x in
+    (times_fine K c.product-hv.ensures c.requires.1.h c.requires.2.v, c.divisor-by.ensures.1)
 
-pub sums-sum-requires : goal.sums-sum-requires
-sums-sum-requires c =
-    λ up. (
-      widen (lit≤ tt) (c.requires.2 up).sum,
-      rw (c.next_term-c.ensures up) (widen (lit≤ tt) (c_in (in_range up) _ (c.requires.1 up) largest_exponent c.args.n c.requires.0 (c.requires.2 up))),
-    )
+pub sum-v-requires : goal.sum-v-requires
+sum-v-requires g c =
+    let K = g.met.A.Operations.keeps c.args.x in
+    let (n, i, k) = c.requires in
+    rw (c.over_by-2.ensures, c.product-hv.ensures, c.divisor-by.ensures.0)
+    (K.more (lit≤ tt) (next_in K i k n c.next_term-c.ensures), over_fine K n (times K i.h k.v))
+
+pub over_by-requires-3 : goal.over_by-requires-3
+over_by-requires-3 g c =
+    let K = g.met.A.Operations.keeps c.args.x in
+    (times_fine K c.product-hy.ensures c.requires.1.h c.requires.2.y, c.divisor-by.ensures.1)
+
+pub sum-y-requires : goal.sum-y-requires
+sum-y-requires g c =
+    let K = g.met.A.Operations.keeps c.args.x in
+    let (n, i, k) = c.requires in
+    rw (c.over_by-3.ensures, c.product-hy.ensures, c.sum-v.ensures, c.over_by-2.ensures, c.product-hv.ensures, c.divisor-by.ensures.0)
+    (plus_over_fine K n (next_in K i k n c.next_term-c.ensures) (times K i.h k.v), over_fine K n (times K i.h k.y))
+
+pub sum-requires-2 : goal.sum-requires-2
+sum-requires-2 g c =
+    let K = g.met.A.Operations.keeps c.args.x in
+    let (n, i, k) = c.requires in
+    (K.more (lit≤ tt) k.sum, K.more (lit≤ tt) (next_in K i k n c.next_term-c.ensures))
 
 pub returns : goal.returns
-unfolding next next_p next_v next_y rounded
-returns c =
-    λ up.
+unfolding next next_p next_v next_y
+returns g c =
     rw (
-      c.sums-sum.ensures up,
-      c.next_v_and_y-w.ensures.1 up,
-      c.next_v_and_y-w.ensures.0 up,
-      c.next_product-p.ensures up,
-      c.next_term-c.ensures up,
-      c.products-hy.ensures up,
-      c.products-hv.ensures up,
-      c.reciprocal_of-by.ensures.0,
+      c.sum-2.ensures,
+      c.sum-y.ensures,
+      c.over_by-3.ensures,
+      c.product-hy.ensures,
+      c.sum-v.ensures,
+      c.over_by-2.ensures,
+      c.product-hv.ensures,
+      c.product-p.ensures,
+      c.sum.ensures,
+      c.over_by.ensures,
+      c.divisor-by.ensures.0,
+      c.next_term-c.ensures,
       add-two,
     )
