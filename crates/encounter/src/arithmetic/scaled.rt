@@ -6,7 +6,6 @@ ghost use Rattle.exact.specs.Scaled.{value, half, double, Normal};
 ghost use Rattle.exact.specs.Private.Ranges.{InRange};
 ghost use Rattle.encounter.specs.Private.Loops.{narrow};
 
-use crate::arithmetic::exponent::lowered;
 use crate::arithmetic::rounding::{bits, fit, followed, long_division, room};
 use crate::arithmetic::wide;
 use crate::arithmetic::wide::{Rounded, moved, narrowed, widen};
@@ -16,9 +15,10 @@ fn traced(r: Rounded) -> Traced
     requires { InRange 32 (2 ^ 30) (narrow r.number) }
     ensures { result ≡ record { number = narrow r.number; lost = r.lost } }
 {
-    let number = narrowed(r.number);
-    let lost = r.lost;
-    Traced { number, lost }
+    Traced {
+        number: narrowed(r.number),
+        lost: r.lost,
+    }
 }
 
 // a × b.
@@ -67,8 +67,7 @@ pub fn ratio(up: bool, n: u64, d: u64) -> Traced
     let s = bits(d);
     let k = followed(d, 48 - s);
     let t = room(n, k);
-    let e = lowered(32, s + t);
-    traced(fit(up, long_division(up, n, t, k), e))
+    traced(fit(up, long_division(up, n, t, k), 32 - (s + t) as i64))
 }
 
 // a / 2, exactly.

@@ -4,9 +4,6 @@ use Rattle.encounter.proofs.arithmetic.Results.{traced_is}
 use Rattle.encounter.proofs.arithmetic.Fitting.{product_of}
 use Rattle.encounter.proofs.arithmetic.scaled.product.Goals as goal
 
-pub product-requires : goal.product-requires
-product-requires c = rw (c.widen.ensures, c.widen-2.ensures) c.requires
-
 pub traced-requires : goal.traced-requires
 traced-requires c =
     widen (lit≤ tt) (product_of c.args.up (rw (c.widen.ensures, c.widen-2.ensures) at c.product.ensures.0) c.requires.0 c.requires.1)

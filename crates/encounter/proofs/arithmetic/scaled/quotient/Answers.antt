@@ -4,9 +4,6 @@ use Rattle.encounter.proofs.arithmetic.Results.{traced_is}
 use Rattle.encounter.proofs.arithmetic.Fitting.{quotient_of}
 use Rattle.encounter.proofs.arithmetic.scaled.quotient.Goals as goal
 
-pub quotient-requires : goal.quotient-requires
-quotient-requires c = rw (c.widen.ensures, c.widen-2.ensures) c.requires
-
 pub traced-requires : goal.traced-requires
 traced-requires c =
     widen (lit≤ tt) (quotient_of c.args.up (rw (c.widen.ensures, c.widen-2.ensures) at c.quotient.ensures.0) c.requires.0 c.requires.1 c.requires.2)

@@ -4,9 +4,6 @@ use Rattle.encounter.proofs.arithmetic.Results.{traced_is}
 use Rattle.encounter.proofs.arithmetic.Fitting.{sum_of}
 use Rattle.encounter.proofs.arithmetic.scaled.sum.Goals as goal
 
-pub sum-requires : goal.sum-requires
-sum-requires c = rw (c.widen.ensures, c.widen-2.ensures) c.requires
-
 pub traced-requires : goal.traced-requires
 traced-requires c =
     widen (lit≤ tt) (sum_of c.args.up (rw (c.widen.ensures, c.widen-2.ensures) at c.sum.ensures.0) c.requires.0 c.requires.1)
