@@ -1,5 +1,5 @@
 // Whole parts, and their rounding to 32 significant bits, each with whether something is left out.
-ghost use Rattle.std.specs.Prelude.{◌≡◌, cond, ◌||◌, ◌+◌, ◌-◌, ◌*◌, ◌/◌, ◌%◌, ◌^◌, ◌≤◌, ◌<◌, ltb, pos, ◌<ℤ◌};
+ghost use Rattle.std.specs.Prelude.{◌≡◌, cond, ◌+◌, ◌-◌, ◌*◌, ◌/◌, ◌%◌, ◌^◌, ◌≤◌, ◌<◌, ltb, pos, ◌<ℤ◌};
 ghost use Rattle.std.specs.Float.Ieee.{size};
 ghost use Rattle.encounter.specs.Private.Loops.{IsWhole, Fitted};
 
@@ -10,16 +10,6 @@ use crate::arithmetic::wide::{Rounded, Wide};
 pub struct Whole {
     pub part: u64,
     pub rest: bool,
-}
-
-// Whether a or b holds.
-pub fn either(a: bool, b: bool) -> bool
-    ensures { result ≡ (a || b) }
-{
-    if a {
-        return true;
-    }
-    b
 }
 
 // How many bits n has.

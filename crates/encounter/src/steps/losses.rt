@@ -8,7 +8,6 @@ ghost use Rattle.exact.specs.Private.Clean.{clean_letters, clean_terms};
 ghost use Rattle.exact.specs.Steps.{first, next_c, next};
 ghost use Rattle.encounter.specs.Private.Held.{step_letters, step_terms, held_letters, held_terms, way_letters, way_terms, CleanLosses};
 
-use crate::arithmetic::rounding::either;
 use crate::arithmetic::traced::{clean, halved, over, product, sum};
 use crate::state::{Letters, Terms};
 use exact::Traced;
@@ -151,19 +150,9 @@ pub struct Losses {
 pub fn losses_at(l: TracedLetters, s: TracedTerms) -> Losses
     ensures { (result.term ≡ (way_terms s).c.lost) × (result.operand ≡ operand_lost (way_letters l) (way_terms s)) }
 {
-    let h = l.h;
-    let X = l.X;
-    let Y = l.Y;
-    let c = s.c;
-    let p = s.p;
-    let v = s.v;
-    let y = s.y;
-    let last = either(y.lost, c.lost);
-    let three = either(p.lost, either(v.lost, last));
-    let operand = either(h.lost, either(X.lost, either(Y.lost, three)));
     Losses {
-        term: c.lost,
-        operand,
+        term: s.c.lost,
+        operand: l.h.lost | l.X.lost | l.Y.lost | s.p.lost | s.v.lost | s.y.lost | s.c.lost,
     }
 }
 
@@ -171,8 +160,8 @@ pub fn losses_at(l: TracedLetters, s: TracedTerms) -> Losses
 pub fn either_side(below: Losses, above: Losses) -> Losses
     ensures { (result.term ≡ (below.term || above.term)) × (result.operand ≡ (below.operand || above.operand)) }
 {
-    let term = either(below.term, above.term);
-    let operand = either(below.operand, above.operand);
+    let term = below.term | above.term;
+    let operand = below.operand | above.operand;
     Losses { term, operand }
 }
 
