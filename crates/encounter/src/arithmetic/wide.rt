@@ -7,7 +7,7 @@ ghost use Rattle.exact.specs.Private.Ranges.{InRange};
 ghost use Rattle.encounter.specs.Private.Loops.{narrow, IsWhole, Rounds, IsReciprocal};
 
 use crate::arithmetic::rounding::{Whole, bits, divided, fit, followed};
-use exact::Scaled;
+use exact::{Scaled, Traced};
 
 // m × 2^e.
 #[derive(Clone, Copy)]
@@ -23,32 +23,49 @@ pub struct Rounded {
     pub lost: bool,
 }
 
-pub fn widen(a: Scaled) -> Wide
-    ensures { narrow result ≡ a }
-{
-    Wide {
-        m: u64::from(a.m),
-        e: i64::from(a.e),
+impl From<Scaled> for Wide {
+    ghost from_gives = { λ a w. narrow w ≡ a };
+
+    fn from(a: Scaled) -> Wide {
+        Wide {
+            m: u64::from(a.m),
+            e: i64::from(a.e),
+        }
     }
 }
 
-pub fn narrowed(a: Wide) -> Scaled
-    requires { InRange 32 (2 ^ 30) (narrow a) }
-    ensures { result ≡ narrow a }
-{
-    Scaled {
-        m: a.m as u32,
-        e: a.e as i32,
+impl Wide {
+    // Not a From: it has a premise.
+    pub fn narrowed(self) -> Scaled
+        requires { InRange 32 (2 ^ 30) (narrow self) }
+        ensures { result ≡ narrow self }
+    {
+        Scaled {
+            m: self.m as u32,
+            e: self.e as i32,
+        }
     }
 }
 
-// A number that is exact as it stands.
-fn unchanged(number: Wide) -> Rounded
-    ensures { (result.number ≡ number) × (result.lost ≡ false) }
-{
-    Rounded {
-        number,
-        lost: false,
+impl Rounded {
+    // A number that is exact as it stands.
+    fn exact(number: Wide) -> Rounded
+        ensures { (result.number ≡ number) × (result.lost ≡ false) }
+    {
+        Rounded {
+            number,
+            lost: false,
+        }
+    }
+
+    pub fn narrowed(self) -> Traced
+        requires { InRange 32 (2 ^ 30) (narrow self.number) }
+        ensures { result ≡ record { number = narrow self.number; lost = self.lost } }
+    {
+        Traced {
+            number: self.number.narrowed(),
+            lost: self.lost,
+        }
     }
 }
 
@@ -59,7 +76,7 @@ pub fn product(up: bool, a: Wide, b: Wide) -> Rounded
 {
     let h = a.m * b.m;
     if h == 0 {
-        return unchanged(Wide { m: 0, e: 0 });
+        return Rounded::exact(Wide { m: 0, e: 0 });
     }
     fit(up, divided(up, h, 2147483648), a.e + b.e + 31)
 }
@@ -102,10 +119,10 @@ pub fn sum(up: bool, a: Wide, b: Wide) -> Rounded
     ensures { Rounds up (value (narrow a) ⊕ value (narrow b)) result }
 {
     if b.m == 0 {
-        return unchanged(a);
+        return Rounded::exact(a);
     }
     if a.m == 0 {
-        return unchanged(b);
+        return Rounded::exact(b);
     }
     if a.e < b.e {
         aligned(up, b, a)
@@ -120,7 +137,7 @@ pub fn over(up: bool, a: Wide, k: u64) -> Rounded
     ensures { Rounds up (value (narrow a) ÷ k) result }
 {
     if a.m == 0 {
-        return unchanged(a);
+        return Rounded::exact(a);
     }
     let t = bits(k);
     fit(up, divided(up, followed(a.m, t), k), a.e - t as i64)
@@ -135,19 +152,16 @@ pub struct Reciprocal {
     pub low: u64,
 }
 
-pub fn reciprocal_of(k: u64) -> Reciprocal
-    requires { (0 < k) × (k ≤ 2 ^ 25) }
-    ensures { (result.k ≡ k) × IsReciprocal result }
-{
-    let t = bits(k);
-    let n = followed(2147483648, t);
-    let high = n / k;
-    let low = (n % k * 4294967296 + (k - 1)) / k;
-    Reciprocal {
-        k,
-        bits: t,
-        high,
-        low,
+impl Reciprocal {
+    pub fn of(k: u64) -> Reciprocal
+        requires { (0 < k) × (k ≤ 2 ^ 25) }
+        ensures { (result.k ≡ k) × IsReciprocal result }
+    {
+        let bits = bits(k);
+        let n = followed(2147483648, bits);
+        let high = n / k;
+        let low = (n % k * 4294967296 + (k - 1)) / k;
+        Reciprocal { k, bits, high, low }
     }
 }
 
@@ -157,7 +171,7 @@ pub fn over_by(up: bool, a: Wide, by: Reciprocal) -> Rounded
     ensures { Rounds up (value (narrow a) ÷ by.k) result }
 {
     if a.m == 0 {
-        return unchanged(a);
+        return Rounded::exact(a);
     }
     let h = a.m * by.high + a.m * by.low / 4294967296;
     fit(up, divided(up, h, 2147483648), a.e - by.bits as i64)
@@ -188,7 +202,7 @@ pub fn quotient(up: bool, a: Wide, b: Wide) -> Rounded
     ensures { Rounds up (value (narrow a) ⊘ value (narrow b)) result }
 {
     if a.m == 0 {
-        return unchanged(a);
+        return Rounded::exact(a);
     }
     fit(up, divided(up, followed(a.m, 32), b.m), a.e - b.e - 32)
 }

@@ -4,7 +4,7 @@ ghost use Rattle.exact.specs.Numbers.{largest_order};
 ghost use Rattle.encounter.specs.Private.Held.{step_letters, step_terms, progress, Begun};
 ghost use Rattle.encounter.specs.Private.Loops.{narrow, letters_of, terms_of};
 
-use crate::arithmetic::wide::{Wide, narrowed, widen};
+use crate::arithmetic::wide::Wide;
 use crate::state::{Session, Terms};
 use crate::steps::sides::{LetterPairs, TermPairs, letter_pairs, side_terms, term_pairs};
 use crate::steps::terms::{next_tail, next_terms};
@@ -33,9 +33,9 @@ fn numbers_of(s: Session) -> Numbers
     let below = s.lower;
     let above = s.upper;
     let l = letter_pairs(below.letters, above.letters);
-    let M = widen(s.M);
+    let M = Wide::from(s.M);
     let t = term_pairs(below.terms, above.terms);
-    let d = widen(s.d);
+    let d = Wide::from(s.d);
     Numbers { l, M, t, d }
 }
 
@@ -58,6 +58,6 @@ pub fn advance(s: Session, count: u32) -> Progress
     }
     let lower = side_terms(false, t);
     let upper = side_terms(true, t);
-    let d = narrowed(d);
+    let d = d.narrowed();
     Progress { lower, upper, d }
 }

@@ -7,9 +7,7 @@ ghost use Rattle.exact.specs.Private.Round.{round};
 ghost use Rattle.encounter.specs.Private.Held.{step_letters, step_terms, held_terms};
 ghost use Rattle.encounter.specs.Private.Loops.{narrow, side_of, letters_of, terms_of, IsReciprocal};
 
-use crate::arithmetic::wide::{
-    Reciprocal, Rounded, Wide, halved, narrowed, over, over_by, product, sum, widen,
-};
+use crate::arithmetic::wide::{Reciprocal, Rounded, Wide, halved, over, over_by, product, sum};
 use crate::state::{Letters, Terms};
 use exact::Scaled;
 
@@ -47,8 +45,8 @@ pub struct PowerPairs {
 pub fn pair_of(lower: Scaled, upper: Scaled) -> Pair
     ensures { (side_of false result ≡ lower) × (side_of true result ≡ upper) }
 {
-    let lower = widen(lower);
-    let upper = widen(upper);
+    let lower = Wide::from(lower);
+    let upper = Wide::from(upper);
     Pair { lower, upper }
 }
 
@@ -79,9 +77,9 @@ pub fn side(up: bool, b: Pair) -> Scaled
     ensures { result ≡ side_of up b }
 {
     if up {
-        return narrowed(b.upper);
+        return b.upper.narrowed();
     }
-    narrowed(b.lower)
+    b.lower.narrowed()
 }
 
 pub fn side_terms(up: bool, s: TermPairs) -> Terms

@@ -6,7 +6,7 @@ ghost use Rattle.exact.specs.Private.Ranges.{largest_exponent, InRange, LettersI
 ghost use Rattle.exact.specs.Steps.{next_c, next, next_d};
 ghost use Rattle.encounter.specs.Private.Loops.{narrow, side_of, letters_of, terms_of, IsReciprocal};
 
-use crate::arithmetic::wide::{Reciprocal, Wide, narrowed, over, product, reciprocal_of, widen};
+use crate::arithmetic::wide::{Reciprocal, Wide, over, product};
 use crate::steps::sides::{LetterPairs, Pair, TermPairs, halves, overs, overs_by, products, sums};
 use exact::Scaled;
 
@@ -67,7 +67,7 @@ pub fn next_terms(l: LetterPairs, s: TermPairs, n: u64) -> TermPairs
     let h = l.h;
     let hv = products(h, s.v);
     let hy = products(h, s.y);
-    let by = reciprocal_of(n + 2);
+    let by = Reciprocal::of(n + 2);
     let c = next_term(l, s, hv, n);
     let p = next_product(u, c, s.p, by);
     let w = next_v_and_y(c, hv, hy, by);
@@ -92,5 +92,5 @@ pub fn first_tail(M: Scaled, c: Scaled) -> Scaled
     requires { (InRange 32 400 M) × (InRange 32 177 c) }
     ensures { result ≡ next_d (rounded true 32) M 0 c }
 {
-    narrowed(next_tail(widen(M), widen(c), 0))
+    next_tail(Wide::from(M), Wide::from(c), 0).narrowed()
 }

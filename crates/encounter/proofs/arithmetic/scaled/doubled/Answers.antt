@@ -6,4 +6,4 @@ use Rattle.encounter.proofs.arithmetic.Fitting.{double_of}
 use Rattle.encounter.proofs.arithmetic.scaled.doubled.Goals as goal
 
 pub narrowed-requires : goal.narrowed-requires
-narrowed-requires c = widen (lit≤ tt) (double_of (c.moved.ensures ∙ ap double c.widen.ensures) c.requires)
+narrowed-requires c = widen (lit≤ tt) (double_of (c.moved.ensures ∙ ap double c.from.ensures) c.requires)

@@ -68,8 +68,8 @@ rounds c =
     let q = divides c.args.n c.args.d _ _ _ c.requires.2 c.requires.1 c.bits-s.ensures c.followed-k.ensures c.args.up r.1 in
     fitted_rounds (rw e at c.fit.ensures) q.0 c.long_division.ensures q.1
 
-pub traced-requires : goal.traced-requires
-traced-requires c = widen (lit≤ tt) (ratio_of c.args.up c.args.n c.args.d (rounds c).0 c.requires.0 c.requires.1 c.requires.2)
+pub narrowed-requires : goal.narrowed-requires
+narrowed-requires c = widen (lit≤ tt) (ratio_of c.args.up c.args.n c.args.d (rounds c).0 c.requires.0 c.requires.1 c.requires.2)
 
 pub returns : goal.returns
-returns c = traced_is _ _ (rounds c.before) c.traced.ensures
+returns c = traced_is _ _ (rounds c.before) c.narrowed.ensures

@@ -33,7 +33,7 @@ module _ (k : ℕ) (kp : 0 < k) (kl : k < 2 ^ 32) (m : ℕ) (ml : m < 2 ^ 32) wh
 
 pub returns-then-a-eq0 : goal.returns-then-a-eq0
 returns-then-a-eq0 c =
-    zero_rounds c.args.up _ c.unchanged.ensures (none c.requires.0.is_scaled c.if-a-eq0.true) (over_none c.args.up 32 (narrow c.args.a) c.args.k c.if-a-eq0.true)
+    zero_rounds c.args.up _ c.exact.ensures (none c.requires.0.is_scaled c.if-a-eq0.true) (over_none c.args.up 32 (narrow c.args.a) c.args.k c.if-a-eq0.true)
 
 pub followed-requires : goal.followed-requires
 followed-requires c =

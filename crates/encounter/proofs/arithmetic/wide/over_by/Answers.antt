@@ -18,7 +18,7 @@ use Rattle.encounter.proofs.arithmetic.wide.over_by.Goals as goal
 
 pub returns-then-a-eq0 : goal.returns-then-a-eq0
 returns-then-a-eq0 c =
-    zero_rounds c.args.up _ c.unchanged.ensures (none c.requires.0.is_scaled c.if-a-eq0.true) (over_none c.args.up 32 (narrow c.args.a) c.args.by.k c.if-a-eq0.true)
+    zero_rounds c.args.up _ c.exact.ensures (none c.requires.0.is_scaled c.if-a-eq0.true) (over_none c.args.up 32 (narrow c.args.a) c.args.by.k c.if-a-eq0.true)
 
 pub overflow_mul-h : goal.overflow_mul-h
 overflow_mul-h c =

@@ -21,7 +21,7 @@ most {m} {n} h k =
 
 pub returns-then-h-eq0 : goal.returns-then-h-eq0
 returns-then-h-eq0 c =
-    zero_rounds c.args.up _ c.unchanged.ensures refl (product_none c.args.up 32 (narrow c.args.a) (narrow c.args.b) c.if-h-eq0.true)
+    zero_rounds c.args.up _ c.exact.ensures refl (product_none c.args.up 32 (narrow c.args.a) (narrow c.args.b) c.if-h-eq0.true)
 
 pub fit-requires : goal.fit-requires
 fit-requires c = (

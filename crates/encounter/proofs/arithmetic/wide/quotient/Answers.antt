@@ -14,7 +14,7 @@ use Rattle.encounter.proofs.arithmetic.wide.quotient.Goals as goal
 
 pub returns-then-a-eq0 : goal.returns-then-a-eq0
 returns-then-a-eq0 c =
-    zero_rounds c.args.up _ c.unchanged.ensures (none c.requires.0.is_scaled c.if-a-eq0.true) (per_none c.args.up 32 (narrow c.args.a) (narrow c.args.b) c.if-a-eq0.true)
+    zero_rounds c.args.up _ c.exact.ensures (none c.requires.0.is_scaled c.if-a-eq0.true) (per_none c.args.up 32 (narrow c.args.a) (narrow c.args.b) c.if-a-eq0.true)
 
 pub fit-requires : goal.fit-requires
 fit-requires c =

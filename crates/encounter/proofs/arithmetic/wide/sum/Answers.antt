@@ -11,7 +11,7 @@ returns-then-b-eq0 c =
     let b = narrow c.args.b in
     let n = c.requires.0.is_scaled in
     let e = c.if-b-eq0.true in
-    kept_rounds c.args.up _ c.unchanged.ensures (sym (sum_none c.args.up 32 a b (lit< tt) n e)) (sum_kept c.args.up 32 a b (lit< tt) n e)
+    kept_rounds c.args.up _ c.exact.ensures (sym (sum_none c.args.up 32 a b (lit< tt) n e)) (sum_kept c.args.up 32 a b (lit< tt) n e)
 
 pub returns-then-a-eq0 : goal.returns-then-a-eq0
 returns-then-a-eq0 c =
@@ -19,7 +19,7 @@ returns-then-a-eq0 c =
     let b = narrow c.args.b in
     let n = c.requires.1.is_scaled in
     let e = c.if-a-eq0.true in
-    kept_rounds c.args.up _ c.unchanged-then-a-eq0.ensures
+    kept_rounds c.args.up _ c.exact-then-a-eq0.ensures
     (sym (sum_comm c.args.up 32 a b (lit< tt) ∙ sum_none c.args.up 32 b a (lit< tt) n e))
     (lost_comm c.args.up 32 a b (lit< tt) ∙ sum_kept c.args.up 32 b a (lit< tt) n e)
 

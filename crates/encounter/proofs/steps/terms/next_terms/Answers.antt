@@ -16,8 +16,8 @@ products-hv-requires c = λ up. (widen (lit≤ tt) (c.requires.1 up).h, widen (l
 pub products-hy-requires : goal.products-hy-requires
 products-hy-requires c = λ up. (widen (lit≤ tt) (c.requires.1 up).h, widen (lit≤ tt) (c.requires.2 up).y)
 
-pub reciprocal_of-by-requires : goal.reciprocal_of-by-requires
-reciprocal_of-by-requires c = (omega arith, omega (arith, c.requires.0))
+pub of-by-requires : goal.of-by-requires
+of-by-requires c = (omega arith, omega (arith, c.requires.0))
 
 pub next_term-c-requires : goal.next_term-c-requires
 unfolding rounded
@@ -25,7 +25,7 @@ next_term-c-requires c = (c.requires.0, c.requires.1, c.requires.2, c.products-h
 
 pub next_product-p-requires : goal.next_product-p-requires
 next_product-p-requires c = (
-  c.reciprocal_of-by.ensures.1,
+  c.of-by.ensures.1,
   (λ up. (c.requires.1 up).u),
   (λ up. rw (c.next_term-c.ensures up) (widen (lit≤ tt) (c_in (in_range up) _ (c.requires.1 up) largest_exponent c.args.n c.requires.0 (c.requires.2 up)))),
   (λ up. (c.requires.2 up).p),
@@ -33,7 +33,7 @@ next_product-p-requires c = (
 
 pub next_v_and_y-w-requires : goal.next_v_and_y-w-requires
 next_v_and_y-w-requires c = (
-  c.reciprocal_of-by.ensures.1,
+  c.of-by.ensures.1,
   (λ up. rw (c.next_term-c.ensures up) (c_in (in_range up) _ (c.requires.1 up) largest_exponent c.args.n c.requires.0 (c.requires.2 up))),
   (λ up. widen (lit≤ tt) (product_of up (c.products-hv.ensures up) (c.requires.1 up).h (c.requires.2 up).v)),
   (λ up. widen (lit≤ tt) (product_of up (c.products-hy.ensures up) (c.requires.1 up).h (c.requires.2 up).y)),
@@ -58,6 +58,6 @@ returns c =
       c.next_term-c.ensures up,
       c.products-hy.ensures up,
       c.products-hv.ensures up,
-      c.reciprocal_of-by.ensures.0,
+      c.of-by.ensures.0,
       add-two,
     )
