@@ -160,7 +160,7 @@ impl Reciprocal {
         let bits = bits(k);
         let n = followed(2147483648, bits);
         let high = n / k;
-        let low = (n % k * 4294967296 + (k - 1)) / k;
+        let low = (n % k * 4294967296).div_ceil(k);
         Reciprocal { k, bits, high, low }
     }
 }
