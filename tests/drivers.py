@@ -94,6 +94,8 @@ use crate::words::word;
 use encounter::arithmetic::scaled;
 use encounter::arithmetic::traced;
 use encounter::arithmetic::wide;
+use encounter::arithmetic::wide::Reciprocal;
+use encounter::arithmetic::wide::Wide;
 use exact::Scaled;
 use exact::Traced;
 use std::io;
@@ -116,8 +118,8 @@ fn truth(t: bool) -> Traced {
 }
 
 fn over_by(up: bool, a: Scaled, k: u32) -> Traced {
-    let r = wide::over_by(up, wide::widen(a), wide::reciprocal_of(k as u64));
-    Traced { number: wide::narrowed(r.number), lost: r.lost }
+    let r = wide::over_by(up, Wide::from(a), Reciprocal::of(k as u64));
+    Traced { number: r.number.narrowed(), lost: r.lost }
 }
 
 fn passing_on(b: &[u8; 18]) -> Traced {

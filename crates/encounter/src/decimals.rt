@@ -11,7 +11,7 @@ ghost use Rattle.encounter.specs.Private.Loops.{narrow, InBinade};
 mod tens;
 
 use crate::arithmetic::exponent::{gap, lowered};
-use crate::arithmetic::wide::{Wide, product, widen};
+use crate::arithmetic::wide::{Wide, product};
 use crate::decimals::tens::{POWERS, power_of_ten};
 use exact::{Decimal, Scaled};
 
@@ -46,7 +46,7 @@ fn whole_at(up: bool, x: Wide, k: usize) -> u64
     requires { (InRange 32 174 (narrow x)) × (0 < k) × (k < table_length) × (reaches up (narrow x) (pred k) ≡ false) }
     ensures { result ≡ floor (value (times_power up (narrow x) k)) }
 {
-    let p = product(up, x, widen(power_of_ten(up, k)));
+    let p = product(up, x, Wide::from(power_of_ten(up, k)));
     whole_part(p.number)
 }
 

@@ -9,12 +9,8 @@ use exact::Scaled;
 pub fn over(up: bool, m: u32, k: u32) -> Scaled
     ensures { result ≡ mantissa_over up m k }
 {
-    if k == 0 {
+    if k == 0 || m < 2147483648 {
         return Scaled::ZERO;
     }
-    if m < 2147483648 {
-        return Scaled::ZERO;
-    }
-    let r = scaled::over(up, Scaled { m, e: 0 }, k as u64);
-    r.number
+    scaled::over(up, Scaled { m, e: 0 }, u64::from(k)).number
 }

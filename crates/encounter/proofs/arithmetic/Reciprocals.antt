@@ -1,9 +1,9 @@
 -- A quotient by way of a reciprocal: the product without its last 32 bits has the quotient's whole part 31 bits up, and a rest below it just where the
 -- division leaves one.
-use mathlib.Core.Path.{◌≡◌, refl, sym, ap}
+use mathlib.Core.Path.{◌≡◌, sym, ap}
 use mathlib.Core.Bool.{Bool}
 use mathlib.Core.Logic.{⊎_elim}
-use Prim.Native.Nat.{ℕ, ◌+◌, ◌-◌, ◌*◌, ◌/◌, ◌%◌, ◌^◌, ◌≤◌, ◌<◌}
+use Prim.Native.Nat.{ℕ, ◌+◌, ◌*◌, ◌/◌, ◌%◌, ◌^◌, ◌≤◌, ◌<◌}
 use native.Mathlib.Nat.{div-mul-le_self, lt-div-mul-add, div-add-mod', mod-lt, mul-add-div_right, mul-le-mul_left, lt_of_mul-lt-mul_right, le_of_mul-le-mul_right, mul-lt-mul_of_pos_right, eq-zero-or-pos}
 use native.Mathlib.Omega.{arith}
 use borrow.Author.Tests.{lt-ltb}
@@ -85,33 +85,6 @@ module _ (k : ℕ) (kp : 0 < k) (kl : k ≤ 2 ^ 25) where
 
   pub whole_fits : whole < 2 ^ 64
   whole_fits = omega (arith, pow_mono few)
-
-  pub rest_fits : whole % k * 4294967296 + (k - 1) < 2 ^ 64
-  rest_fits = omega (arith, mod-lt whole kp)
-
-  abbrev pub high : ℕ
-  high = whole / k
-
-  abbrev pub low : ℕ
-  low = (whole % k * 4294967296 + (k - 1)) / k
-
-  low_under : low * k ≤ whole % k * 4294967296 + (k - 1)
-  low_under = div-mul-le_self (whole % k * 4294967296 + (k - 1)) k
-
-  low_over : whole % k * 4294967296 ≤ low * k
-  low_over = omega (arith, lt-div-mul-add {a = whole % k * 4294967296 + (k - 1)} kp)
-
-  pub reciprocal_is : IsReciprocal (record { k = k; bits = size k; high = high; low = low })
-  reciprocal_is = record {
-    some = kp;
-    small = kl;
-    bits_are = refl;
-    low_fits =
-        let l : low < 4294967296 + 1 = lt_of_mul-lt-mul_right k (omega (arith, low_under, mod-lt whole kp)) in
-        omega arith;
-    above = omega (arith, low_over, div-add-mod' whole k);
-    near = omega (arith, low_under, div-add-mod' whole k);
-  }
 
 -- ---- how the code divides by it
 

@@ -2,13 +2,16 @@
 use mathlib.Core.Path.{◌≡◌, sym, ◌∙◌, ap}
 use mathlib.Core.Bool.{Bool, false, ◌||◌}
 use Prim.Native.Nat.{ℕ, ◌^◌, ◌≤◌}
+use lib.Dec.{lit<}
 use lib.IntN.{ℤ}
+use mir.Syntax.{w64}
+use mir.Val.{to_z, of_z}
 use Rattle.exact.specs.declared.Traced.{Traced}
 use Rattle.exact.specs.Fraction.{Frac}
 use Rattle.exact.specs.Arithmetic.{rounding}
-use Rattle.exact.specs.Scaled.{lost}
+use Rattle.exact.specs.Scaled.{lost, nought}
 use Rattle.exact.specs.Private.Round.{round}
-use Rattle.exact.proofs.Rounding.{Packed}
+use Rattle.exact.proofs.Rounding.{Packed, lost_nought}
 use Rattle.encounter.specs.declared.arithmetic.rounding.Whole.{Whole}
 use Rattle.encounter.specs.declared.arithmetic.wide.Wide.{Wide}
 use Rattle.encounter.specs.declared.arithmetic.wide.Rounded.{Rounded}
@@ -20,6 +23,14 @@ fitted_rounds {h = h} {s = s} f l i k = ((f h s l i).0 ∙ k.is, (f h s l i).1 �
 
 pub kept_rounds : (up : Bool) (q : Frac) {x : Wide} {r : Rounded} → (r.number ≡ x) × (r.lost ≡ false) → narrow x ≡ round up 32 q → lost up 32 q ≡ false → Rounds up q r
 kept_rounds up q e h k = (rw e.0 h, e.1 ∙ sym k)
+
+-- zero
+pub zero_rounds : (up : Bool) (q : Frac) {x : Wide} {r : Rounded} → (r.number ≡ x) × (r.lost ≡ false) → narrow x ≡ nought → round up 32 q ≡ nought → Rounds up q r
+zero_rounds up q e h k = kept_rounds up q e (h ∙ sym k) (lost_nought up 32 q (lit< tt) k)
+
+-- an exponent, read back from its 64 bits
+abbrev pub read : ℤ → ℤ
+read z = to_z w64 (of_z w64 z)
 
 -- as a number with its losses
 pub traced_is : (up : Bool) (q : Frac) {r : Rounded} {t : Traced} → Rounds up q r → t ≡ record { number = narrow r.number; lost = r.lost } → t ≡ rounding up 32 q false

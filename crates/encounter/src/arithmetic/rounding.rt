@@ -1,10 +1,8 @@
 // Whole parts, and their rounding to 32 significant bits, each with whether something is left out.
-ghost use Rattle.std.specs.Prelude.{◌≡◌, cond, ◌||◌, ◌+◌, ◌-◌, ◌*◌, ◌/◌, ◌%◌, ◌^◌, ◌≤◌, ◌<◌, ltb};
+ghost use Rattle.std.specs.Prelude.{◌≡◌, cond, ◌+◌, ◌-◌, ◌*◌, ◌/◌, ◌%◌, ◌^◌, ◌≤◌, ◌<◌, ltb, pos, ◌<ℤ◌};
 ghost use Rattle.std.specs.Float.Ieee.{size};
-ghost use Rattle.exact.specs.Integer.{pos_part};
 ghost use Rattle.encounter.specs.Private.Loops.{IsWhole, Fitted};
 
-use crate::arithmetic::exponent::raised;
 use crate::arithmetic::wide::{Rounded, Wide};
 
 // A whole number, and whether a rest was left in forming it.
@@ -14,22 +12,12 @@ pub struct Whole {
     pub rest: bool,
 }
 
-// Whether a or b holds.
-pub fn either(a: bool, b: bool) -> bool
-    ensures { result ≡ (a || b) }
-{
-    if a {
-        return true;
-    }
-    b
-}
-
 // How many bits n has.
 pub fn bits(n: u64) -> u64
     requires { 0 < n }
     ensures { result ≡ size n }
 {
-    (64 - u64::leading_zeros(n)) as u64
+    u64::from(64 - n.leading_zeros())
 }
 
 // n followed by t zeros.
@@ -56,9 +44,10 @@ pub fn divided(up: bool, n: u64, k: u64) -> Whole
     requires { (0 < k) × (n + (k - 1) < 2 ^ 64) }
     ensures { IsWhole up (n / k) (ltb 0 (n % k)) result }
 {
-    let part = upward(up, n, k - 1) / k;
-    let rest = 0 < n % k;
-    Whole { part, rest }
+    Whole {
+        part: upward(up, n, k - 1) / k,
+        rest: 0 < n % k,
+    }
 }
 
 // How many zeros follow n so that it is from 2^15 × k to below 2^16 × k.
@@ -79,36 +68,27 @@ pub fn long_division(up: bool, n: u64, t: u64, k: u64) -> Whole
     ensures { IsWhole up (n * 2 ^ t * 65536 / k) (ltb 0 (n * 2 ^ t * 65536 % k)) result }
 {
     let x = followed(n, t);
-    let rest = x % k * 65536;
-    let q = x / k * 65536 + rest / k;
-    if rest % k == 0 {
-        return Whole {
-            part: q,
-            rest: false,
-        };
+    let last = x % k * 65536;
+    let rest = 0 < last % k;
+    Whole {
+        part: x / k * 65536 + last / k + u64::from(up & rest),
+        rest,
     }
-    let part = upward(up, q, 1);
-    Whole { part, rest: true }
-}
-
-// Whether the last bit of a, which has 32 or 33 bits, is 1 and dropped: c is the 33rd.
-fn dropped(a: u64, c: u64) -> bool
-    requires { (a < 2 ^ 33) × (c ≤ 1) }
-    ensures { result ≡ ltb 0 (c * a % 2) }
-{
-    0 < c * a % 2
 }
 
 // a × 2^e, for a whole part a of 32 or 33 bits: m is a, or half of it. Something is lost where a rest was left, or a last bit that is not 0 is dropped.
 pub fn fit(up: bool, w: Whole, e: i64) -> Rounded
-    requires { (w.part + 1 < 2 ^ 33) × (pos_part e < 2 ^ 32) }
+    requires { (w.part + 1 < 2 ^ 33) × (e <ℤ pos (2 ^ 32)) }
     ensures { Fitted up w e result }
 {
     let a = w.part;
+    // how many bits there are beyond 32
     let c = a / 4294967296;
-    let m = upward(up, a, c) >> c;
-    let f = raised(e, c);
-    let number = Wide { m, e: f };
-    let lost = either(w.rest, dropped(a, c));
-    Rounded { number, lost }
+    Rounded {
+        number: Wide {
+            m: upward(up, a, c) >> c,
+            e: e + c as i64,
+        },
+        lost: w.rest | (0 < c * a % 2),
+    }
 }

@@ -4,29 +4,18 @@ ghost use Rattle.exact.specs.Arithmetic.{rounding};
 ghost use Rattle.exact.specs.Fraction.{◌⊕◌, ◌⊗◌, ◌÷◌, ◌⊘◌, ◌over◌, at_most};
 ghost use Rattle.exact.specs.Scaled.{value, half, double, Normal};
 ghost use Rattle.exact.specs.Private.Ranges.{InRange};
-ghost use Rattle.encounter.specs.Private.Loops.{narrow};
 
-use crate::arithmetic::exponent::lowered;
 use crate::arithmetic::rounding::{bits, fit, followed, long_division, room};
 use crate::arithmetic::wide;
-use crate::arithmetic::wide::{Rounded, moved, narrowed, widen};
+use crate::arithmetic::wide::{Wide, moved};
 use exact::{Scaled, Traced};
-
-fn traced(r: Rounded) -> Traced
-    requires { InRange 32 (2 ^ 30) (narrow r.number) }
-    ensures { result ≡ record { number = narrow r.number; lost = r.lost } }
-{
-    let number = narrowed(r.number);
-    let lost = r.lost;
-    Traced { number, lost }
-}
 
 // a × b.
 pub fn product(up: bool, a: Scaled, b: Scaled) -> Traced
     requires { (InRange 32 (2 ^ 28) a) × (InRange 32 (2 ^ 28) b) }
     ensures { result ≡ rounding up 32 (value a ⊗ value b) false }
 {
-    traced(wide::product(up, widen(a), widen(b)))
+    wide::product(up, Wide::from(a), Wide::from(b)).narrowed()
 }
 
 // a + b.
@@ -34,7 +23,7 @@ pub fn sum(up: bool, a: Scaled, b: Scaled) -> Traced
     requires { (InRange 32 (2 ^ 28) a) × (InRange 32 (2 ^ 28) b) }
     ensures { result ≡ rounding up 32 (value a ⊕ value b) false }
 {
-    traced(wide::sum(up, widen(a), widen(b)))
+    wide::sum(up, Wide::from(a), Wide::from(b)).narrowed()
 }
 
 // a / k, for a whole number k.
@@ -42,7 +31,7 @@ pub fn over(up: bool, a: Scaled, k: u64) -> Traced
     requires { (InRange 32 (2 ^ 28) a) × (0 < k) × (k < 2 ^ 32) }
     ensures { result ≡ rounding up 32 (value a ÷ k) false }
 {
-    traced(wide::over(up, widen(a), k))
+    wide::over(up, Wide::from(a), k).narrowed()
 }
 
 // a / b, where b is not zero.
@@ -50,7 +39,7 @@ pub fn quotient(up: bool, a: Scaled, b: Scaled) -> Traced
     requires { (InRange 32 (2 ^ 28) a) × (InRange 32 (2 ^ 28) b) × (Normal 32 b) }
     ensures { result ≡ rounding up 32 (value a ⊘ value b) false }
 {
-    traced(wide::quotient(up, widen(a), widen(b)))
+    wide::quotient(up, Wide::from(a), Wide::from(b)).narrowed()
 }
 
 // n / d of whole numbers: both followed by zeros, so that d has 48 bits and 16 bits more of their quotient make 32.
@@ -67,8 +56,7 @@ pub fn ratio(up: bool, n: u64, d: u64) -> Traced
     let s = bits(d);
     let k = followed(d, 48 - s);
     let t = room(n, k);
-    let e = lowered(32, s + t);
-    traced(fit(up, long_division(up, n, t, k), e))
+    fit(up, long_division(up, n, t, k), 32 - (s + t) as i64).narrowed()
 }
 
 // a / 2, exactly.
@@ -76,7 +64,7 @@ pub fn halved(a: Scaled) -> Scaled
     requires { InRange 32 (2 ^ 28) a }
     ensures { result ≡ half a }
 {
-    narrowed(moved(widen(a), 1))
+    moved(Wide::from(a), 1).narrowed()
 }
 
 // 2 × a, exactly.
@@ -84,7 +72,7 @@ pub fn doubled(a: Scaled) -> Scaled
     requires { InRange 32 (2 ^ 28) a }
     ensures { result ≡ double a }
 {
-    narrowed(moved(widen(a), -1))
+    moved(Wide::from(a), -1).narrowed()
 }
 
 // Whether a is at most b.
@@ -92,5 +80,5 @@ pub fn at_most(a: Scaled, b: Scaled) -> bool
     requires { (InRange 32 (2 ^ 28) a) × (InRange 32 (2 ^ 28) b) }
     ensures { result ≡ at_most (value a) (value b) }
 {
-    wide::at_most(widen(a), widen(b))
+    wide::at_most(Wide::from(a), Wide::from(b))
 }

@@ -4,7 +4,6 @@ ghost use Rattle.std.specs.Prelude.{◌≡◌, Bool, false, ◌||◌, ◌^◌, �
 ghost use Rattle.exact.specs.Arithmetic.{traced};
 ghost use Rattle.exact.specs.Private.Ranges.{InRange};
 
-use crate::arithmetic::rounding::either;
 use crate::arithmetic::scaled;
 use exact::{Scaled, Traced};
 
@@ -22,9 +21,10 @@ pub fn clean(number: Scaled) -> Traced
 fn passed_on(before: bool, r: Traced) -> Traced
     ensures { result ≡ record { number = r.number; lost = before || r.lost } }
 {
-    let number = r.number;
-    let lost = either(before, r.lost);
-    Traced { number, lost }
+    Traced {
+        number: r.number,
+        lost: before | r.lost,
+    }
 }
 
 // a × b.
@@ -32,8 +32,7 @@ pub fn product(up: bool, a: Traced, b: Traced) -> Traced
     requires { (InRange 32 (2 ^ 28) a.number) × (InRange 32 (2 ^ 28) b.number) }
     ensures { result ≡ (traced up 32).product a b }
 {
-    let before = either(a.lost, b.lost);
-    passed_on(before, scaled::product(up, a.number, b.number))
+    passed_on(a.lost | b.lost, scaled::product(up, a.number, b.number))
 }
 
 // a + b.
@@ -41,8 +40,7 @@ pub fn sum(up: bool, a: Traced, b: Traced) -> Traced
     requires { (InRange 32 (2 ^ 28) a.number) × (InRange 32 (2 ^ 28) b.number) }
     ensures { result ≡ (traced up 32).sum a b }
 {
-    let before = either(a.lost, b.lost);
-    passed_on(before, scaled::sum(up, a.number, b.number))
+    passed_on(a.lost | b.lost, scaled::sum(up, a.number, b.number))
 }
 
 // a / k, for a whole number k.
@@ -50,8 +48,7 @@ pub fn over(up: bool, a: Traced, k: u64) -> Traced
     requires { (InRange 32 (2 ^ 28) a.number) × (0 < k) × (k < 2 ^ 32) }
     ensures { result ≡ (traced up 32).quotient a k }
 {
-    let before = a.lost;
-    passed_on(before, scaled::over(up, a.number, k))
+    passed_on(a.lost, scaled::over(up, a.number, k))
 }
 
 // a / 2, exactly.
@@ -59,7 +56,8 @@ pub fn halved(a: Traced) -> Traced
     requires { InRange 32 (2 ^ 28) a.number }
     ensures { (up : Bool) → result ≡ (traced up 32).half a }
 {
-    let number = scaled::halved(a.number);
-    let lost = a.lost;
-    Traced { number, lost }
+    Traced {
+        number: scaled::halved(a.number),
+        lost: a.lost,
+    }
 }

@@ -1,14 +1,13 @@
 // The arithmetic on scaled numbers in two machine words: each operation answers D (up is false) or U (up is true) of the exact value, and whether it lost anything.
-ghost use Rattle.std.specs.Prelude.{◌≡◌, false, ◌/◌, ◌%◌, ◌^◌, ◌≤◌, ◌<◌, min, ltb, pos, ◌+ℤ◌, ◌-ℤ◌};
+ghost use Rattle.std.specs.Prelude.{◌≡◌, false, ◌/◌, ◌%◌, ◌^◌, ◌≤◌, ◌<◌, min, ltb, ◌-ℤ◌, ◌≤ℤ◌};
 ghost use Rattle.exact.specs.Fraction.{◌⊕◌, ◌⊗◌, ◌÷◌, ◌⊘◌, at_most};
 ghost use Rattle.exact.specs.Integer.{pos_part, neg_part};
 ghost use Rattle.exact.specs.Scaled.{value, with_exponent, half, Normal};
 ghost use Rattle.exact.specs.Private.Ranges.{InRange};
 ghost use Rattle.encounter.specs.Private.Loops.{narrow, IsWhole, Rounds, IsReciprocal};
 
-use crate::arithmetic::exponent::{gap, lowered, minus, plus, raised};
 use crate::arithmetic::rounding::{Whole, bits, divided, fit, followed};
-use exact::Scaled;
+use exact::{Scaled, Traced};
 
 // m × 2^e.
 #[derive(Clone, Copy)]
@@ -24,30 +23,49 @@ pub struct Rounded {
     pub lost: bool,
 }
 
-pub fn widen(a: Scaled) -> Wide
-    ensures { narrow result ≡ a }
-{
-    let m = a.m as u64;
-    let e = a.e as i64;
-    Wide { m, e }
+impl From<Scaled> for Wide {
+    ghost from_gives = { λ a w. narrow w ≡ a };
+
+    fn from(a: Scaled) -> Wide {
+        Wide {
+            m: u64::from(a.m),
+            e: i64::from(a.e),
+        }
+    }
 }
 
-pub fn narrowed(a: Wide) -> Scaled
-    requires { InRange 32 (2 ^ 30) (narrow a) }
-    ensures { result ≡ narrow a }
-{
-    let m = a.m as u32;
-    let e = a.e as i32;
-    Scaled { m, e }
+impl Wide {
+    // Not a From: it has a premise.
+    pub fn narrowed(self) -> Scaled
+        requires { InRange 32 (2 ^ 30) (narrow self) }
+        ensures { result ≡ narrow self }
+    {
+        Scaled {
+            m: self.m as u32,
+            e: self.e as i32,
+        }
+    }
 }
 
-// A number that is exact as it stands.
-fn unchanged(number: Wide) -> Rounded
-    ensures { (result.number ≡ number) × (result.lost ≡ false) }
-{
-    Rounded {
-        number,
-        lost: false,
+impl Rounded {
+    // A number that is exact as it stands.
+    fn exact(number: Wide) -> Rounded
+        ensures { (result.number ≡ number) × (result.lost ≡ false) }
+    {
+        Rounded {
+            number,
+            lost: false,
+        }
+    }
+
+    pub fn narrowed(self) -> Traced
+        requires { InRange 32 (2 ^ 30) (narrow self.number) }
+        ensures { result ≡ record { number = narrow self.number; lost = self.lost } }
+    {
+        Traced {
+            number: self.number.narrowed(),
+            lost: self.lost,
+        }
     }
 }
 
@@ -56,27 +74,11 @@ pub fn product(up: bool, a: Wide, b: Wide) -> Rounded
     requires { (InRange 32 (2 ^ 28) (narrow a)) × (InRange 32 (2 ^ 28) (narrow b)) }
     ensures { Rounds up (value (narrow a) ⊗ value (narrow b)) result }
 {
-    let m = a.m;
-    let n = b.m;
-    let x = a.e;
-    let y = b.e;
-    let h = m * n;
+    let h = a.m * b.m;
     if h == 0 {
-        let number = Wide { m: 0, e: 0 };
-        return unchanged(number);
+        return Rounded::exact(Wide { m: 0, e: 0 });
     }
-    let e = raised(plus(x, y), 31);
-    fit(up, divided(up, h, 2147483648), e)
-}
-
-// The shift for a gap of g: 63 already leaves nothing of a mantissa.
-fn shift(g: u64) -> u64
-    ensures { result ≡ min g 63 }
-{
-    if g < 63 {
-        return g;
-    }
-    63
+    fit(up, divided(up, h, 2147483648), a.e + b.e + 31)
 }
 
 // y / 2^g, or where up is true the whole number at or above it.
@@ -84,7 +86,8 @@ fn shifted(up: bool, y: u64, g: u64) -> Whole
     requires { (0 < y) × (y < 2 ^ 32) }
     ensures { IsWhole up (y / 2 ^ g) (ltb 0 (y % 2 ^ g)) result }
 {
-    let s = shift(g);
+    // 63 already leaves nothing of a mantissa
+    let s = g.min(63);
     let below = y >> s;
     let rest = followed(below, s) < y;
     if up {
@@ -94,18 +97,20 @@ fn shifted(up: bool, y: u64, g: u64) -> Whole
     Whole { part: below, rest }
 }
 
-// a + b, where neither is zero and a's exponent is b's and g more.
-fn aligned(up: bool, a: Wide, b: Wide, g: u64) -> Rounded
-    requires { (InRange 32 (2 ^ 28) (narrow a)) × (Normal 32 (narrow a)) × (Normal 32 (narrow b)) × (a.e ≡ b.e +ℤ pos g) }
+// a + b, where neither is zero and a's exponent is at least b's.
+fn aligned(up: bool, a: Wide, b: Wide) -> Rounded
+    requires { (InRange 32 (2 ^ 28) (narrow a)) × (InRange 32 (2 ^ 28) (narrow b)) × (Normal 32 (narrow a)) × (Normal 32 (narrow b)) × (b.e ≤ℤ a.e) }
     ensures { Rounds up (value (narrow a) ⊕ value (narrow b)) result }
 {
-    let m = a.m;
-    let n = b.m;
-    let e = a.e;
-    let below = shifted(up, n, g);
-    let part = m + below.part;
-    let rest = below.rest;
-    fit(up, Whole { part, rest }, e)
+    let below = shifted(up, b.m, (a.e - b.e) as u64);
+    fit(
+        up,
+        Whole {
+            part: a.m + below.part,
+            rest: below.rest,
+        },
+        a.e,
+    )
 }
 
 // a + b.
@@ -114,18 +119,15 @@ pub fn sum(up: bool, a: Wide, b: Wide) -> Rounded
     ensures { Rounds up (value (narrow a) ⊕ value (narrow b)) result }
 {
     if b.m == 0 {
-        return unchanged(a);
+        return Rounded::exact(a);
     }
     if a.m == 0 {
-        return unchanged(b);
+        return Rounded::exact(b);
     }
-    let x = a.e;
-    let y = b.e;
-    let more = gap(y, x);
-    if more == 0 {
-        aligned(up, a, b, gap(x, y))
+    if a.e < b.e {
+        aligned(up, b, a)
     } else {
-        aligned(up, b, a, more)
+        aligned(up, a, b)
     }
 }
 
@@ -134,15 +136,11 @@ pub fn over(up: bool, a: Wide, k: u64) -> Rounded
     requires { (InRange 32 (2 ^ 28) (narrow a)) × (0 < k) × (k < 2 ^ 32) }
     ensures { Rounds up (value (narrow a) ÷ k) result }
 {
-    let m = a.m;
-    let x = a.e;
-    if m == 0 {
-        return unchanged(a);
+    if a.m == 0 {
+        return Rounded::exact(a);
     }
     let t = bits(k);
-    let n = followed(m, t);
-    let e = lowered(x, t);
-    fit(up, divided(up, n, k), e)
+    fit(up, divided(up, followed(a.m, t), k), a.e - t as i64)
 }
 
 // What a division by k has in common with every other by k.
@@ -154,19 +152,16 @@ pub struct Reciprocal {
     pub low: u64,
 }
 
-pub fn reciprocal_of(k: u64) -> Reciprocal
-    requires { (0 < k) × (k ≤ 2 ^ 25) }
-    ensures { (result.k ≡ k) × IsReciprocal result }
-{
-    let t = bits(k);
-    let n = followed(2147483648, t);
-    let high = n / k;
-    let low = (n % k * 4294967296 + (k - 1)) / k;
-    Reciprocal {
-        k,
-        bits: t,
-        high,
-        low,
+impl Reciprocal {
+    pub fn of(k: u64) -> Reciprocal
+        requires { (0 < k) × (k ≤ 2 ^ 25) }
+        ensures { (result.k ≡ k) × IsReciprocal result }
+    {
+        let bits = bits(k);
+        let n = followed(2147483648, bits);
+        let high = n / k;
+        let low = (n % k * 4294967296).div_ceil(k);
+        Reciprocal { k, bits, high, low }
     }
 }
 
@@ -175,17 +170,11 @@ pub fn over_by(up: bool, a: Wide, by: Reciprocal) -> Rounded
     requires { (InRange 32 (2 ^ 28) (narrow a)) × IsReciprocal by }
     ensures { Rounds up (value (narrow a) ÷ by.k) result }
 {
-    let m = a.m;
-    let x = a.e;
-    let bits = by.bits;
-    let high = by.high;
-    let low = by.low;
-    if m == 0 {
-        return unchanged(a);
+    if a.m == 0 {
+        return Rounded::exact(a);
     }
-    let h = m * high + m * low / 4294967296;
-    let e = lowered(x, bits);
-    fit(up, divided(up, h, 2147483648), e)
+    let h = a.m * by.high + a.m * by.low / 4294967296;
+    fit(up, divided(up, h, 2147483648), a.e - by.bits as i64)
 }
 
 // a / 2^k, exactly.
@@ -193,13 +182,10 @@ pub fn moved(a: Wide, k: i64) -> Wide
     requires { (InRange 32 (2 ^ 28) (narrow a)) × (pos_part k ≤ 2 ^ 28) × (neg_part k ≤ 2 ^ 28) }
     ensures { narrow result ≡ with_exponent (narrow a) (a.e -ℤ k) }
 {
-    let m = a.m;
-    let x = a.e;
-    if m == 0 {
+    if a.m == 0 {
         return a;
     }
-    let e = minus(x, k);
-    Wide { m, e }
+    Wide { m: a.m, e: a.e - k }
 }
 
 // a / 2, exactly.
@@ -215,16 +201,10 @@ pub fn quotient(up: bool, a: Wide, b: Wide) -> Rounded
     requires { (InRange 32 (2 ^ 28) (narrow a)) × (InRange 32 (2 ^ 28) (narrow b)) × (Normal 32 (narrow b)) }
     ensures { Rounds up (value (narrow a) ⊘ value (narrow b)) result }
 {
-    let m = a.m;
-    let k = b.m;
-    let x = a.e;
-    let y = b.e;
-    if m == 0 {
-        return unchanged(a);
+    if a.m == 0 {
+        return Rounded::exact(a);
     }
-    let n = followed(m, 32);
-    let e = lowered(minus(x, y), 32);
-    fit(up, divided(up, n, k), e)
+    fit(up, divided(up, followed(a.m, 32), b.m), a.e - b.e - 32)
 }
 
 // Whether a is at most b.
@@ -238,13 +218,8 @@ pub fn at_most(a: Wide, b: Wide) -> bool
     if b.m == 0 {
         return false;
     }
-    let x = a.e;
-    let y = b.e;
-    if 0 < gap(y, x) {
-        return true;
+    if a.e == b.e {
+        return a.m <= b.m;
     }
-    if 0 < gap(x, y) {
-        return false;
-    }
-    a.m <= b.m
+    a.e < b.e
 }

@@ -3,7 +3,7 @@ ghost use Rattle.std.specs.Prelude.{◌≡◌, true, false, ◌+◌, ◌-◌, �
 ghost use Rattle.exact.specs.Numbers.{largest_order};
 ghost use Rattle.encounter.specs.Private.Held.{progress, Begun};
 
-use crate::arithmetic::wide::{narrowed, widen};
+use crate::arithmetic::wide::Wide;
 use crate::state::{Session, Terms};
 use crate::steps::sides::{BothSides, letter_pairs, side_terms, term_pairs};
 use crate::steps::terms::{next_tail, next_terms};
@@ -23,9 +23,9 @@ pub fn advance(s: Session, count: u32) -> Progress
     ensures { result ≡ progress s.encounter (s.N + count - 1) }
 {
     let l = letter_pairs(s.lower.letters, s.upper.letters);
-    let M = widen(s.M);
+    let M = Wide::from(s.M);
     let mut t = term_pairs(s.lower.terms, s.upper.terms);
-    let mut d = widen(s.d);
+    let mut d = Wide::from(s.d);
     let first = (s.N - 1) as u64;
     let limit = (s.N + count - 1) as u64;
     for n in first..limit {
@@ -35,6 +35,6 @@ pub fn advance(s: Session, count: u32) -> Progress
     Progress {
         lower: side_terms(false, t),
         upper: side_terms(true, t),
-        d: narrowed(d),
+        d: d.narrowed(),
     }
 }

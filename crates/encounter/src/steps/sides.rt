@@ -5,9 +5,7 @@ ghost use Rattle.encounter.specs.Private.Held.{step_letters, step_terms, held_te
 ghost use Rattle.encounter.specs.Private.Operations.{both, both_keeps, PairIn};
 ghost use Rattle.encounter.specs.Private.Loops.{side_of, letters_of, terms_of, IsReciprocal};
 
-use crate::arithmetic::wide::{
-    Reciprocal, Wide, halved, narrowed, over, over_by, product, reciprocal_of, sum, widen,
-};
+use crate::arithmetic::wide::{Reciprocal, Wide, halved, over, over_by, product, sum};
 use crate::state::{Letters, Terms};
 use crate::steps::numbers::{LetterSet, Operations, TermSet};
 use exact::Scaled;
@@ -29,8 +27,8 @@ pub fn pair_of(lower: Scaled, upper: Scaled) -> Pair
     ensures { (side_of false result ≡ lower) × (side_of true result ≡ upper) }
 {
     Pair {
-        lower: widen(lower),
-        upper: widen(upper),
+        lower: Wide::from(lower),
+        upper: Wide::from(upper),
     }
 }
 
@@ -63,9 +61,9 @@ pub fn side(up: bool, b: Pair) -> Scaled
     ensures { result ≡ side_of up b }
 {
     if up {
-        narrowed(b.upper)
+        b.upper.narrowed()
     } else {
-        narrowed(b.lower)
+        b.lower.narrowed()
     }
 }
 
@@ -130,7 +128,7 @@ impl Operations for BothSides {
     }
 
     fn divisor(self, k: u64) -> Reciprocal {
-        reciprocal_of(k)
+        Reciprocal::of(k)
     }
 
     fn over_by(self, a: Pair, by: Reciprocal) -> Pair {

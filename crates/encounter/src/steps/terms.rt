@@ -7,7 +7,7 @@ ghost use Rattle.exact.specs.Steps.{next_c, next, next_d};
 ghost use Rattle.encounter.specs.Private.Held.{set_letters, set_terms};
 ghost use Rattle.encounter.specs.Private.Loops.{narrow};
 
-use crate::arithmetic::wide::{Wide, narrowed, over, product, widen};
+use crate::arithmetic::wide::{Wide, over, product};
 use crate::steps::numbers::{LetterSet, Operations, TermSet};
 use exact::Scaled;
 
@@ -68,5 +68,5 @@ pub fn first_tail(M: Scaled, c: Scaled) -> Scaled
     requires { (InRange 32 400 M) × (InRange 32 177 c) }
     ensures { result ≡ next_d (rounded true 32) M 0 c }
 {
-    narrowed(next_tail(widen(M), widen(c), 0))
+    next_tail(Wide::from(M), Wide::from(c), 0).narrowed()
 }

@@ -1,6 +1,6 @@
 use mathlib.Core.Path.{◌≡◌, ap}
 use mathlib.Core.Bool.{Bool, false}
-use mathlib.Core.Logic.{inr}
+use mathlib.Core.Logic.{inr, ⊎_elim}
 use Prim.Native.Nat.{ℕ, ◌^◌, ◌≤◌, ◌<◌}
 use native.Mathlib.Omega.{arith}
 use lib.Dec.{lit≤}
@@ -33,15 +33,12 @@ in_range : (m : ℕ) → 2 ^ 31 ≤ m → m < 2 ^ 32 → InRange 32 (2 ^ 28) (sc
 in_range m l h = record { is_scaled = inr (record { low = omega (arith, l); high = h }); above = lit≤ tt; below = lit≤ tt }
 
 pub returns-then-k-eq0 : goal.returns-then-k-eq0
-returns-then-k-eq0 c = let a = c.args in by_zero a.up a.m a.k c.if-k-eq0.true
+returns-then-k-eq0 c = let a = c.args in ⊎_elim (by_zero a.up a.m a.k) (λ p. too_small a.up a.m a.k p.0 p.1) c.then-k-eq0.either
 
-pub returns-then-m-lt2147483648 : goal.returns-then-m-lt2147483648
-returns-then-m-lt2147483648 c = let a = c.args in too_small a.up a.m a.k c.if-k-eq0.false c.if-m-lt2147483648.true
-
-pub over-r-requires : goal.over-r-requires
-over-r-requires c = let a = c.args in (in_range a.m c.if-m-lt2147483648.false (search rules), omega (arith, c.if-k-eq0.false), search rules)
+pub over-requires : goal.over-requires
+over-requires c = let a = c.args in (in_range a.m c.if-m-lt2147483648.false (search rules), omega (arith, c.from.ensures, c.if-k-eq0.false), search rules)
 
 pub returns : goal.returns
 returns c =
     let a = c.args in
-    divides a.up a.m a.k c.over-r.result c.if-k-eq0.false c.if-m-lt2147483648.false c.over-r.ensures
+    divides a.up a.m a.k c.over.result c.if-k-eq0.false c.if-m-lt2147483648.false (rw c.from.ensures at c.over.ensures)

@@ -1,9 +1,21 @@
-use mathlib.Core.Path.{◌≡◌, sym, ◌∙◌, ap}
-use Prim.Native.Nat.{ℕ, ◌+◌, ◌*◌, ◌/◌, ◌%◌, ◌^◌, ◌<◌}
-use native.Mathlib.Nat.{div-lt_iff_lt-mul, mul-add-div_right, mul-add-mod_self_right, div-add-mod', mod-lt}
+use mathlib.Core.Path.{◌≡◌, refl, sym, ap}
+use mathlib.Core.Bool.{Bool, true, false, cond, ◌&&◌}
+use Prim.Native.Nat.{ℕ, ◌+◌, ◌*◌, ◌/◌, ◌%◌, ◌^◌, ◌≤◌, ◌<◌}
+use native.Mathlib.Nat.{div-lt_iff_lt-mul, mul-add-div_right, mul-add-mod_self_right, div-add-mod'}
 use native.Mathlib.Omega.{arith}
-use Rattle.encounter.proofs.arithmetic.WholeParts.{whole_none, whole_else, rest_none, rest_some}
+use lib.Dec.{ltb}
+use Rattle.std.specs.Int.{from_bool}
+use Rattle.encounter.specs.Private.Loops.{whole_part}
 use Rattle.encounter.proofs.arithmetic.rounding.long_division.Goals as goal
+
+-- the number of a truth
+bit_is : (b : Bool) → from_bool b ≡ cond b 1 0
+bit_is true = refl
+bit_is false = refl
+
+bit_le : (b : Bool) → from_bool b ≤ 1
+bit_le true = omega arith
+bit_le false = omega arith
 
 -- x / k, and 16 bits more
 module _ (x y k : ℕ) (kl : k < 2 ^ 48) (l : y < 2 ^ 16 * k) (is : x ≡ y) where
@@ -19,33 +31,14 @@ module _ (x y k : ℕ) (kl : k < 2 ^ 48) (l : y < 2 ^ 16 * k) (is : x ≡ y) whe
   rest : x % k * 65536 % k ≡ y * 65536 % k
   rest = sym (rw split (mul-add-mod_self_right (x / k * 65536) k (x % k * 65536)))
 
-  rest_fits : x % k * 65536 < 2 ^ 64
-  rest_fits = omega (arith, mod-lt x some)
-
   fits : x / k * 65536 + x % k * 65536 / k < 2 ^ 32
   fits = rw quotient ((div-lt_iff_lt-mul some).1 (omega arith))
 
-pub overflow_mul-rest : goal.overflow_mul-rest
-overflow_mul-rest c = record { fits = rest_fits _ _ _ c.requires.0 c.requires.2 c.followed-x.ensures }
-
-pub overflow_mul-q : goal.overflow_mul-q
-overflow_mul-q c = record { fits = omega (arith, fits _ _ _ c.requires.0 c.requires.2 c.followed-x.ensures) }
-
-pub overflow_add-q : goal.overflow_add-q
-overflow_add-q c = record { fits = omega (arith, fits _ _ _ c.requires.0 c.requires.2 c.followed-x.ensures) }
-
-pub returns-then-rest-k-eq0 : goal.returns-then-rest-k-eq0
-returns-then-rest-k-eq0 c =
-    let f = c.followed-x.ensures in
-    let none = sym (rest _ _ _ c.requires.0 c.requires.2 f) ∙ c.if-rest-k-eq0.true in
-    (quotient _ _ _ c.requires.0 c.requires.2 f ∙ sym (whole_none c.args.up _ _ none), rest_none _ none)
-
-pub upward-part-requires : goal.upward-part-requires
-upward-part-requires c = omega (arith, fits _ _ _ c.requires.0 c.requires.2 c.followed-x.ensures)
+pub overflow_add-result-2 : goal.overflow_add-result-2
+overflow_add-result-2 c = record { fits = omega (arith, fits _ _ _ c.requires.0 c.requires.2 c.followed-x.ensures, c.from.ensures, bit_le (c.args.up && ltb 0 (c.followed-x.result % c.args.k * 65536 % c.args.k))) }
 
 pub returns : goal.returns
+unfolding whole_part
 returns c =
-    let f = c.followed-x.ensures in (
-      c.upward-part.ensures ∙ rw (quotient _ _ _ c.requires.0 c.requires.2 f) (sym (whole_else c.args.up _ _ (λ e. c.if-rest-k-eq0.false (rest _ _ _ c.requires.0 c.requires.2 f ∙ e)))),
-      rest_some _ (λ e. c.if-rest-k-eq0.false (rest _ _ _ c.requires.0 c.requires.2 f ∙ e)),
-    )
+    let f = c.followed-x.ensures in
+    rw (c.from.ensures, bit_is, quotient _ _ _ c.requires.0 c.requires.2 f, rest _ _ _ c.requires.0 c.requires.2 f) (refl, refl)

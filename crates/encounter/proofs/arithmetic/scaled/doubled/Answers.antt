@@ -5,11 +5,5 @@ use Rattle.exact.proofs.Ranges.{widen}
 use Rattle.encounter.proofs.arithmetic.Fitting.{double_of}
 use Rattle.encounter.proofs.arithmetic.scaled.doubled.Goals as goal
 
-pub moved-requires : goal.moved-requires
-moved-requires c = (rw c.widen.ensures c.requires, lit≤ tt, lit≤ tt)
-
 pub narrowed-requires : goal.narrowed-requires
-narrowed-requires c = widen (lit≤ tt) (double_of (c.moved.ensures ∙ ap double c.widen.ensures) c.requires)
-
-pub returns : goal.returns
-returns c = c.narrowed.ensures ∙ c.moved.ensures ∙ ap double c.widen.ensures
+narrowed-requires c = widen (lit≤ tt) (double_of (c.moved.ensures ∙ ap double c.from.ensures) c.requires)

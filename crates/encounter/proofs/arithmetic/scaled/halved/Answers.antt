@@ -5,11 +5,5 @@ use Rattle.exact.proofs.Ranges.{widen}
 use Rattle.encounter.proofs.arithmetic.Fitting.{half_of}
 use Rattle.encounter.proofs.arithmetic.scaled.halved.Goals as goal
 
-pub moved-requires : goal.moved-requires
-moved-requires c = (rw c.widen.ensures c.requires, lit≤ tt, lit≤ tt)
-
 pub narrowed-requires : goal.narrowed-requires
-narrowed-requires c = widen (lit≤ tt) (half_of (c.moved.ensures ∙ ap half c.widen.ensures) c.requires)
-
-pub returns : goal.returns
-returns c = c.narrowed.ensures ∙ c.moved.ensures ∙ ap half c.widen.ensures
+narrowed-requires c = widen (lit≤ tt) (half_of (c.moved.ensures ∙ ap half c.from.ensures) c.requires)

@@ -5,12 +5,9 @@ use Rattle.encounter.proofs.arithmetic.Fitting.{over_of}
 use Rattle.encounter.proofs.arithmetic.Results.{traced_is}
 use Rattle.encounter.proofs.arithmetic.scaled.over.Goals as goal
 
-pub over-requires : goal.over-requires
-over-requires c = rw c.widen.ensures c.requires
-
-pub traced-requires : goal.traced-requires
-traced-requires c =
-    widen (lit≤ tt) (over_of c.args.up _ (rw c.widen.ensures at c.over.ensures.0) c.requires.1 (omega (arith, c.requires.2)) c.requires.0)
+pub narrowed-requires : goal.narrowed-requires
+narrowed-requires c =
+    widen (lit≤ tt) (over_of c.args.up _ (rw c.from.ensures at c.over.ensures.0) c.requires.1 (omega (arith, c.requires.2)) c.requires.0)
 
 pub returns : goal.returns
-returns c = traced_is c.args.up _ (rw c.widen.ensures at c.over.ensures) c.traced.ensures
+returns c = traced_is c.args.up _ (rw c.from.ensures at c.over.ensures) c.narrowed.ensures

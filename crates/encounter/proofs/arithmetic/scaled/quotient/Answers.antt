@@ -4,13 +4,10 @@ use Rattle.encounter.proofs.arithmetic.Results.{traced_is}
 use Rattle.encounter.proofs.arithmetic.Fitting.{quotient_of}
 use Rattle.encounter.proofs.arithmetic.scaled.quotient.Goals as goal
 
-pub quotient-requires : goal.quotient-requires
-quotient-requires c = rw (c.widen.ensures, c.widen-2.ensures) c.requires
-
-pub traced-requires : goal.traced-requires
-traced-requires c =
-    widen (lit≤ tt) (quotient_of c.args.up (rw (c.widen.ensures, c.widen-2.ensures) at c.quotient.ensures.0) c.requires.0 c.requires.1 c.requires.2)
+pub narrowed-requires : goal.narrowed-requires
+narrowed-requires c =
+    widen (lit≤ tt) (quotient_of c.args.up (rw (c.from.ensures, c.from-2.ensures) at c.quotient.ensures.0) c.requires.0 c.requires.1 c.requires.2)
 
 pub returns : goal.returns
 returns c =
-    traced_is c.args.up _ (rw (c.widen.ensures, c.widen-2.ensures) at c.quotient.ensures) c.traced.ensures
+    traced_is c.args.up _ (rw (c.from.ensures, c.from-2.ensures) at c.quotient.ensures) c.narrowed.ensures

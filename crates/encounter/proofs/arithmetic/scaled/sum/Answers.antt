@@ -4,13 +4,10 @@ use Rattle.encounter.proofs.arithmetic.Results.{traced_is}
 use Rattle.encounter.proofs.arithmetic.Fitting.{sum_of}
 use Rattle.encounter.proofs.arithmetic.scaled.sum.Goals as goal
 
-pub sum-requires : goal.sum-requires
-sum-requires c = rw (c.widen.ensures, c.widen-2.ensures) c.requires
-
-pub traced-requires : goal.traced-requires
-traced-requires c =
-    widen (lit≤ tt) (sum_of c.args.up (rw (c.widen.ensures, c.widen-2.ensures) at c.sum.ensures.0) c.requires.0 c.requires.1)
+pub narrowed-requires : goal.narrowed-requires
+narrowed-requires c =
+    widen (lit≤ tt) (sum_of c.args.up (rw (c.from.ensures, c.from-2.ensures) at c.sum.ensures.0) c.requires.0 c.requires.1)
 
 pub returns : goal.returns
 returns c =
-    traced_is c.args.up _ (rw (c.widen.ensures, c.widen-2.ensures) at c.sum.ensures) c.traced.ensures
+    traced_is c.args.up _ (rw (c.from.ensures, c.from-2.ensures) at c.sum.ensures) c.narrowed.ensures

@@ -3,4 +3,4 @@ use Rattle.encounter.proofs.arithmetic.traced.halved.Goals as goal
 
 pub returns : goal.returns
 unfolding traced
-returns c = λ up. rw c.halved-number.ensures
+returns c = λ up. rw c.halved.ensures

@@ -1,7 +1,8 @@
+use mathlib.Core.Path.{refl}
 use Rattle.exact.specs.Arithmetic.{traced}
 use Rattle.encounter.proofs.arithmetic.Results.{passed_is}
 use Rattle.encounter.proofs.arithmetic.traced.product.Goals as goal
 
 pub returns : goal.returns
 unfolding traced
-returns c = passed_is c.args.up _ _ c.either-before.ensures c.product.ensures c.passed_on.ensures
+returns c = passed_is c.args.up _ _ refl c.product.ensures c.passed_on.ensures

@@ -1,28 +1,24 @@
-use mathlib.Core.Path.{sym, ◌∙◌}
+use mathlib.Core.Path.{◌≡◌, ◌∙◌}
 use Prim.Native.Nat.{◌*◌, ◌^◌, ◌≤◌}
 use native.Mathlib.Nat.{le_of_lt}
 use native.Mathlib.Omega.{arith}
 use lib.Dec.{lit<}
-use lib.IntN.{pos}
+use lib.IntN.{pos, ◌-ℤ◌}
 use lib.Ieee.Digits.{size-lt}
 use mir.Syntax.{w64}
-use mir.Facts.{to_z-of_z}
-use Rattle.exact.proofs.Integers.{pos_diff}
-use Rattle.exact.proofs.Signed.{back_in}
+use mir.Val.{to_z}
+use Rattle.std.proofs.lemmas.Int.{ints}
 use Rattle.exact.proofs.Packing.{scaled_high}
-use Rattle.exact.proofs.Rounding.{lost_nought}
 use Rattle.exact.proofs.Operations.{normal, none, wide, over_packs, over_none}
-use Rattle.exact.proofs.Ranges.{in_fits}
 use Rattle.encounter.specs.Private.Loops.{narrow}
-use Rattle.encounter.proofs.arithmetic.Results.{fitted_rounds, kept_rounds}
+use Rattle.encounter.proofs.arithmetic.Results.{read, fitted_rounds, zero_rounds}
 use Rattle.encounter.proofs.arithmetic.WholeParts.{whole_le}
 use Rattle.encounter.proofs.arithmetic.Reciprocals.{few, formed, h_le, low_product, quotient_is}
 use Rattle.encounter.proofs.arithmetic.wide.over_by.Goals as goal
 
-pub returns-then-m-eq0 : goal.returns-then-m-eq0
-returns-then-m-eq0 c =
-    let e = over_none c.args.up 32 (narrow c.args.a) c.args.by.k c.if-m-eq0.true in
-    kept_rounds c.args.up _ c.unchanged.ensures (none c.requires.0.is_scaled c.if-m-eq0.true ∙ sym e) (lost_nought c.args.up 32 _ (lit< tt) e)
+pub returns-then-a-eq0 : goal.returns-then-a-eq0
+returns-then-a-eq0 c =
+    zero_rounds c.args.up _ c.exact.ensures (none c.requires.0.is_scaled c.if-a-eq0.true) (over_none c.args.up 32 (narrow c.args.a) c.args.by.k c.if-a-eq0.true)
 
 pub overflow_mul-h : goal.overflow_mul-h
 overflow_mul-h c =
@@ -37,36 +33,39 @@ overflow_add-h c =
     let ml = scaled_high c.requires.0.is_scaled in
     record { fits = omega (arith, ml, formed c.args.a.m ml c.args.by c.requires.1, h_le c.args.a.m ml c.args.by c.requires.1) }
 
-pub lowered-e-requires : goal.lowered-e-requires
-lowered-e-requires c =
-    rw (to_z-of_z (in_fits c.requires.0)) (omega (arith, c.requires.0.below, c.requires.1.bits_are, few c.args.by.k c.requires.1.some c.requires.1.small))
-
 pub divided-requires : goal.divided-requires
 divided-requires c =
     let ml = scaled_high c.requires.0.is_scaled in
     (lit< tt, omega (arith, ml, formed c.args.a.m ml c.args.by c.requires.1, h_le c.args.a.m ml c.args.by c.requires.1))
 
+pub overflow_cast-by : goal.overflow_cast-by
+overflow_cast-by c = let l = few c.args.by.k c.requires.1.some c.requires.1.small in omega (arith, ints, c.requires.1.bits_are)
+
+pub overflow_sub-a : goal.overflow_sub-a
+overflow_sub-a c = let l = few c.args.by.k c.requires.1.some c.requires.1.small in omega (arith, ints, c.requires.1.bits_are)
+
 pub fit-requires : goal.fit-requires
 fit-requires c =
-    let l = c.lowered-e in
-    let ml = scaled_high c.requires.0.is_scaled in (
+    let ml = scaled_high c.requires.0.is_scaled in
+    let l = few c.args.by.k c.requires.1.some c.requires.1.small in (
       omega (arith, ml, whole_le _ _ _ (2 * c.args.a.m) _ (lit< tt) (omega (arith, formed c.args.a.m ml c.args.by c.requires.1, h_le c.args.a.m ml c.args.by c.requires.1)) c.divided.ensures.0),
-      rw (back_in w64 l.result l.type_inv, l.ensures, to_z-of_z (in_fits c.requires.0)) (omega (arith, c.requires.0.above, pos_diff c.args.a.e (pos c.args.by.bits))),
+      omega (arith, ints, c.requires.1.bits_are),
     )
 
 pub returns : goal.returns
 returns c =
     let k = c.args.by.k in
     let i = c.requires.1 in
-    let l = c.lowered-e in
     let ml = scaled_high c.requires.0.is_scaled in
-    let m = normal c.requires.0.is_scaled c.if-m-eq0.false in
+    let m = normal c.requires.0.is_scaled c.if-a-eq0.false in
     let kl : k ≤ 2 ^ c.args.by.bits = rw i.bits_are (le_of_lt (size-lt k)) in
     let low = wide 32 c.args.by.bits c.args.a.m k i.some kl m.low in
     let q = quotient_is c.args.a.m ml c.args.by i c.args.up in
     let a = rw (formed c.args.a.m ml c.args.by i) at c.divided.ensures in
+    let l = few k i.some i.small in
+    let e : read (read c.args.a.e -ℤ to_z w64 c.args.by.bits) ≡ c.args.a.e -ℤ pos c.args.by.bits = omega (arith, ints, i.bits_are) in
     fitted_rounds
-    (rw (back_in w64 l.result l.type_inv, l.ensures, to_z-of_z (in_fits c.requires.0)) at c.fit.ensures)
+    (rw e at c.fit.ensures)
     (omega (arith, low))
     (a.0 ∙ q.0, a.1 ∙ q.1)
     (over_packs c.args.up 32 c.args.by.bits (narrow c.args.a) k (lit< tt) m i.some kl)

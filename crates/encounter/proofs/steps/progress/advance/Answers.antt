@@ -11,7 +11,7 @@ use Rattle.encounter.proofs.steps.Progressing.{start_holds, letters_held, bound_
 use Rattle.encounter.proofs.steps.progress.advance.Goals as goal
 
 pub loop-n-init : goal.loop-n-init
-loop-n-init c = start_holds c.args.s c.requires.0 c.letter_pairs-l.ensures c.widen-M.ensures c.term_pairs-t.ensures c.widen-d.ensures
+loop-n-init c = start_holds c.args.s c.requires.0 c.letter_pairs-l.ensures c.from-M.ensures c.term_pairs-t.ensures c.from-d.ensures
 
 -- in the loop, which ends at an index below the largest order
 below : (c : goal.In-loop-n) → c.loop-n.n < largest_order
