@@ -5,7 +5,7 @@ use mathlib.Core.List.{List, [], ◌∷◌, ◌++◌, flatten, append_assoc, app
 use Prim.Native.Nat.{ℕ, ◌+◌, ◌-◌, ◌≤◌, ◌<◌}
 use native.Mathlib.Omega.{arith}
 use borrow.Author.Tests.{le-ltb, lt-ltb}
-use lib.ListN.{length, take, drop, length-drop, take-append-drop, drop_of_length-le}
+use lib.ListN.{length, take, drop, length-append, length-drop, take-append-drop, drop_of_length-le}
 use lib.Seq.{paste, drop-paste, take-paste, length-paste, drop-drop, length-take-le, take_all}
 use Rattle.exact.specs.Numbers.{largest_script}
 use Rattle.exact.specs.Refusals.{refuses_8}
@@ -117,3 +117,7 @@ module _ (l buf : List ℕ) (from to : ℕ) (g : Going l buf from to) where
 -- of a script that is too long nothing is left
 pub too_long_left : (l : List ℕ) → largest_script < length l → dropped l ≡ []
 too_long_left l h = nothing_left l (unfold refuses_8 in lt-ltb largest_script (length l) h)
+
+-- so what follows it is not looked at
+pub no_further : (l rest : List ℕ) → largest_script < length l → dropped (l ++ rest) ≡ dropped l
+no_further l rest h = too_long_left (l ++ rest) (omega (arith, h, length-append l rest)) ∙ sym (too_long_left l h)

@@ -1,6 +1,8 @@
 // drop_empty_adds: copies a script from standard input to standard output without its adds of count 0.
 #![tactic(auto)]
 
+ghost use Rattle.std.specs.Prelude.{OnOk, IfSome};
+ghost use Rattle.std.specs.Io.KnownBytes.{Appends};
 ghost use Rattle.streams.specs.Writing.{Appended, Handed};
 ghost use Rattle.drop_empty_adds.specs.Dropping.{dropped};
 
@@ -9,7 +11,7 @@ mod dropping;
 use crate::dropping::drop_empty_adds;
 use exact::LARGEST_SCRIPT;
 use std::io;
-use std::io::Write;
+use std::io::{Read, Write};
 use streams::{KEPT, read_script};
 
 const UNREAD: &str = "the script could not be read";
@@ -28,19 +30,21 @@ fn run<W: Write>(output: &mut W, script: &mut [u8]) -> io::Result<usize>
     Ok(n)
 }
 
-// Copies the script, or answers why it was not.
-fn copy(rt: &HostRuntime) -> Result<(), &'static str> {
+// Reads a script and writes the new one, or answers why nothing or not all was written.
+fn copy<R: Read, W: Write>(input: &mut R, output: &mut W) -> Result<(), &'static str>
+    ensures { OnOk result (IfSome (R.remaining input.old) (λ script. Appends (W.contents output.old) (W.contents output.new) (dropped script))) }
+{
     let mut kept = [0u8; KEPT];
-    let script = read_script(&mut rt.stdin(), &mut kept).map_err(|_| UNREAD)?;
+    let script = read_script(input, &mut kept).map_err(|_| UNREAD)?;
     if LARGEST_SCRIPT < script.len() {
         return Err(TOO_LONG);
     }
-    run(&mut rt.stdout(), script).map_err(|_| UNWRITTEN)?;
+    run(output, script).map_err(|_| UNWRITTEN)?;
     Ok(())
 }
 
 fn main(rt: HostRuntime) {
-    if let Err(failure) = copy(&rt) {
+    if let Err(failure) = copy(&mut rt.stdin(), &mut rt.stdout()) {
         // Whether this succeeds is not looked at.
         let _ = eprintln!(rt; "drop_empty_adds: {failure}");
     }

@@ -1,6 +1,8 @@
 // screen: runs a script from standard input and writes what document 01 says of it.
 #![tactic(auto)]
 
+ghost use Rattle.std.specs.Prelude.{OnOk, IfSome};
+ghost use Rattle.std.specs.Io.KnownBytes.{Appends};
 ghost use Rattle.encounter.specs.Calls.{Reached};
 ghost use Rattle.listing.specs.Listing.{printed};
 ghost use Rattle.streams.specs.Writing.{Appended, Handed};
@@ -10,7 +12,7 @@ use encounter::state::Session;
 use exact::LARGEST_SCRIPT;
 use listing::script::{Piece, put_lines, put_too_long};
 use std::io;
-use std::io::Write;
+use std::io::{Read, Write};
 use streams::{KEPT, read_script};
 
 // The bytes of a piece of the listing.
@@ -59,16 +61,18 @@ fn run<W: Write>(output: &mut W, script: &[u8]) -> io::Result<usize>
     }
 }
 
-// Prints the listing of the script, or answers what could not be done.
-fn screen(rt: &HostRuntime) -> Result<(), &'static str> {
+// Reads a script and writes what is printed for it, or answers what could not be done.
+fn screen<R: Read, W: Write>(input: &mut R, output: &mut W) -> Result<(), &'static str>
+    ensures { OnOk result (IfSome (R.remaining input.old) (λ script. Appends (W.contents output.old) (W.contents output.new) (printed script))) }
+{
     let mut kept = [0u8; KEPT];
-    let script = read_script(&mut rt.stdin(), &mut kept).map_err(|_| UNREAD)?;
-    run(&mut rt.stdout(), script).map_err(|_| UNWRITTEN)?;
+    let script = read_script(input, &mut kept).map_err(|_| UNREAD)?;
+    run(output, script).map_err(|_| UNWRITTEN)?;
     Ok(())
 }
 
 fn main(rt: HostRuntime) {
-    if let Err(failure) = screen(&rt) {
+    if let Err(failure) = screen(&mut rt.stdin(), &mut rt.stdout()) {
         // Whether this succeeds is not looked at.
         let _ = eprintln!(rt; "screen: {failure}");
     }
