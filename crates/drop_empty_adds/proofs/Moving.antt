@@ -35,13 +35,16 @@ pub going_start : (l : List ℕ) → Going l l 0 0
 going_start l = record { is = refl; rest = refl; down = omega arith; within = omega arith; same = refl }
 
 module _ (l buf : List ℕ) (from to : ℕ) (g : Going l buf from to) where
-  pub unread : drop from buf ≡ drop from l
+  unread : drop from buf ≡ drop from l
   unread = later buf l to from g.down g.rest
 
-  pub part_is : take (length buf - from) (drop from buf) ≡ drop from l
+  part_is : take (length buf - from) (drop from buf) ≡ drop from l
   part_is = take_all (length buf - from) (drop from buf) (omega (arith, length-drop from buf)) ∙ unread
 
-  module _ (h : from < length buf) (n : ℕ) (first : n ≡ first_length (drop from l)) where
+  module _ (h : from < length buf) (n : ℕ) (found : n ≡ first_length (take (length buf - from) (drop from buf))) where
+    first : n ≡ first_length (drop from l)
+    first = found ∙ ap first_length part_is
+
     bounds : (0 < n) × (from + n ≤ length l)
     bounds =
         let b = first_some (drop from l) (omega (arith, length-drop from l, g.same)) in
