@@ -31,9 +31,6 @@ pub record Going (l buf : List ℕ) (from to : ℕ) : Type 0 where
   pub within : from ≤ length l
   pub same : length buf ≡ length l
 
-pub going_start : (l : List ℕ) → Going l l 0 0
-going_start l = record { is = refl; rest = refl; down = omega arith; within = omega arith; same = refl }
-
 module _ (l buf : List ℕ) (from to : ℕ) (g : Going l buf from to) where
   unread : drop from buf ≡ drop from l
   unread = later buf l to from g.down g.rest

@@ -54,6 +54,7 @@ fn keep(script: &mut [u8], from: usize, to: usize, n: usize) -> usize
 }
 
 // Drops the adds of count 0 and moves the other records together. Answers how many bytes the new script has; one that is too long has none, and stays as it is.
+// A number and no slice: the contract says what all of the lent bytes are afterwards, which a slice that is lent back would leave open.
 #[tactic(auto, using(crate::proofs::Moving::too_long_left, crate::proofs::Moving::finished, crate::proofs::Claiming::claims))]
 pub fn drop_empty_adds(script: &mut [u8]) -> usize
     ensures in_place { InPlace script.old script.new result }
@@ -62,6 +63,7 @@ pub fn drop_empty_adds(script: &mut [u8]) -> usize
     if LARGEST_SCRIPT < script.len() {
         return 0;
     }
+    // No iterator: the script is changed while it is read.
     let mut from = 0;
     let mut to = 0;
     while from < script.len() {

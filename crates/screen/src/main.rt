@@ -29,9 +29,8 @@ fn put_piece(script: &[u8], at: usize, s: Session, out: &mut [u8; PIECE]) -> Pie
     ensures { NextOf script.now at s out.new result }
 {
     if LARGEST_SCRIPT < script.len() {
-        let line = put_too_long(out);
         return Piece {
-            used: line,
+            used: put_too_long(out),
             next: at,
             session: s,
             ended: true,

@@ -11,7 +11,7 @@ use std::io::{ErrorKind, Read};
 // The bytes kept for a script: one more than it may have, so that a script that fills them is too long.
 pub const KEPT: usize = LARGEST_SCRIPT + 1;
 
-// How many times a read that is interrupted is tried.
+// How many times a read that is interrupted is tried, so that reading ends whatever the input does.
 const TRIES: u32 = 1000000;
 
 // One read, of no bytes where the input is at its end. An interrupted read is tried again; where every try is interrupted, it failed.
