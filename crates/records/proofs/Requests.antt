@@ -144,9 +144,9 @@ module _ (l : List ℕ) (i : ℕ) (s : Session) (h : Reached s) where
       answered (bad r) i _ n.asks n.next (ap (λ (c : Called). made_of c i) g)
 
   -- a call that was made
-  pub taken : {kind : Kind} {body : List ℕ} {c : Called} → RecordAt l i kind body → c ≡ outcome (history_of s) (request_of (kind_byte kind) body 0) s
-      → (made_of c (i + 1 + length body) ≡ record_call l i s) × Reached c.session
-  taken {kind} {body} n e = answered (request_of (kind_byte kind) body 0) (i + 1 + length body) _ n.asks n.next (ap (λ (c : Called). made_of c (i + 1 + length body)) e)
+  pub taken : {kind : Kind} {body : List ℕ} {t : Taken} → RecordAt l i kind body → t ≡ made_of (outcome (history_of s) (request_of (kind_byte kind) body 0) s) (i + 1 + length body)
+      → (t ≡ record_call l i s) × Reached t.session
+  taken {kind} {body} {t} n = answered (request_of (kind_byte kind) body 0) (i + 1 + length body) t n.asks n.next
 
 module _ (s : Session) (h : Reached s) where
   -- a read leaves the session

@@ -65,24 +65,6 @@ fn record_at(script: &[u8], at: usize) -> Result<(Kind, &[u8]), Refusal>
     Ok((kind, body))
 }
 
-// The call that a record of this kind with this body asks for.
-#[tactic(auto, using(crate::proofs::Requests::read_is), unfolding(exact::specs::Records::body_length, exact::specs::Records::request_of))]
-fn called(s: Session, kind: Kind, body: &[u8]) -> Called
-    requires reached { Reached s }
-    requires whole { length body.now ≡ body_length (kind_byte kind) }
-    ensures { (result ≡ outcome (history_of s) (request_of (kind_byte kind) body.now 0) s) × Reached result.session }
-{
-    match kind {
-        Kind::Begin => calls::begin(s, encounter_in(body)),
-        Kind::Add => calls::add(s, u16_at(body, 0)),
-        Kind::Read => Called {
-            answer: calls::read(s),
-            session: s,
-        },
-        Kind::BeginConjunction => calls::begin_conjunction(s, conjunction_in(body)),
-    }
-}
-
 impl Taken {
     // A record whose call was made.
     fn made(c: Called, next: usize) -> Taken
@@ -96,6 +78,28 @@ impl Taken {
     }
 }
 
+// The call that a record of this kind with this body asks for. Each arm answers a `Taken`: one `made` of a `match` copied the session twice.
+#[tactic(auto, using(crate::proofs::Requests::read_is), unfolding(exact::specs::Records::body_length, exact::specs::Records::request_of))]
+fn take(s: Session, kind: Kind, body: &[u8], next: usize) -> Taken
+    requires reached { Reached s }
+    requires whole { length body.now ≡ body_length (kind_byte kind) }
+    ensures { (result ≡ made_of (outcome (history_of s) (request_of (kind_byte kind) body.now 0) s) next) × Reached result.session }
+{
+    match kind {
+        Kind::Begin => Taken::made(calls::begin(s, encounter_in(body)), next),
+        Kind::Add => Taken::made(calls::add(s, u16_at(body, 0)), next),
+        Kind::Read => Taken {
+            answer: calls::read(s),
+            next,
+            session: s,
+        },
+        Kind::BeginConjunction => Taken::made(
+            calls::begin_conjunction(s, conjunction_in(body)),
+            next,
+        ),
+    }
+}
+
 // The call that the record at a position asks for. After refusal 1 or 2 `next` is that position itself: the script ends there. The script is lent for reading only.
 #[tactic(auto, using(crate::proofs::Requests::stopped, crate::proofs::Requests::taken))]
 pub fn take_record(s: Session, script: &[u8], at: usize) -> Taken
@@ -103,7 +107,7 @@ pub fn take_record(s: Session, script: &[u8], at: usize) -> Taken
     ensures { (result ≡ record_call script.now at s) × Reached result.session }
 {
     match record_at(script, at) {
-        Ok((kind, body)) => Taken::made(called(s, kind, body), at + 1 + body.len()),
+        Ok((kind, body)) => take(s, kind, body, at + 1 + body.len()),
         Err(refusal) => Taken {
             answer: Answer::refused(u32::from(refusal)),
             next: at,
