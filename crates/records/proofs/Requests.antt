@@ -148,10 +148,13 @@ module _ (l : List ℕ) (i : ℕ) (s : Session) (h : Reached s) where
       → (t ≡ record_call l i s) × Reached t.session
   taken {kind} {body} {t} n = answered (request_of (kind_byte kind) body 0) (i + 1 + length body) t n.asks n.next
 
-module _ (s : Session) (h : Reached s) where
   -- a read leaves the session
   read_keeps : (outcome (history_of s) read s).session ≡ s
   read_keeps = by_cases (history_of s) read s (λ r _. r.session ≡ s) (λ _. told h) (λ _. refl)
 
-  pub read_is : (a : Answer) → a ≡ (call reads s).answer → record { answer = a; session = s } ≡ outcome (history_of s) read s
-  read_is a e = ap (λ (x : Answer). record { answer = x; session = s }) e ∙ ap (λ (x : Session). record { answer = (call reads s).answer; session = x }) (sym read_keeps)
+  pub read_at : {kind : Kind} {body : List ℕ} {a : Answer} → RecordAt l i kind body → kind ≡ Read → a ≡ (call reads s).answer
+      → (record { answer = a; next = i + 1 + length body; session = s } ≡ record_call l i s) × Reached s
+  unfolding request_of
+  read_at {kind} {body} {a} n k e =
+      let q : request_of (kind_byte kind) body 0 ≡ read = ap (λ (x : Kind). request_of (kind_byte x) body 0) k in
+      answered read (i + 1 + length body) _ (n.asks ∙ q) n.next (rw (e, read_keeps))

@@ -78,13 +78,23 @@ impl Taken {
     }
 }
 
-// The call that a record of this kind with this body asks for. Each arm answers a `Taken`: one `made` of a `match` copied the session twice.
-#[tactic(auto, using(crate::proofs::Requests::read_is), unfolding(exact::specs::Records::body_length, exact::specs::Records::request_of))]
-fn take(s: Session, kind: Kind, body: &[u8], next: usize) -> Taken
-    requires reached { Reached s }
-    requires whole { length body.now ≡ body_length (kind_byte kind) }
-    ensures { (result ≡ made_of (outcome (history_of s) (request_of (kind_byte kind) body.now 0) s) next) × Reached result.session }
+// The call that the record at a position asks for. After refusal 1 or 2 `next` is that position itself: the script ends there. The script is lent for reading only.
+#[tactic(auto, using(crate::proofs::Requests::stopped, crate::proofs::Requests::taken), unfolding(exact::specs::Records::body_length, exact::specs::Records::request_of))]
+pub fn take_record(s: Session, script: &[u8], at: usize) -> Taken
+    requires { Reached s }
+    ensures { (result ≡ record_call script.now at s) × Reached result.session }
 {
+    let (kind, body) = match record_at(script, at) {
+        Ok(record) => record,
+        Err(refusal) => {
+            return Taken {
+                answer: Answer::refused(u32::from(refusal)),
+                next: at,
+                session: s,
+            };
+        }
+    };
+    let next = at + 1 + body.len();
     match kind {
         Kind::Begin => Taken::made(calls::begin(s, encounter_in(body)), next),
         Kind::Add => Taken::made(calls::add(s, u16_at(body, 0)), next),
@@ -97,21 +107,5 @@ fn take(s: Session, kind: Kind, body: &[u8], next: usize) -> Taken
             calls::begin_conjunction(s, conjunction_in(body)),
             next,
         ),
-    }
-}
-
-// The call that the record at a position asks for. After refusal 1 or 2 `next` is that position itself: the script ends there. The script is lent for reading only.
-#[tactic(auto, using(crate::proofs::Requests::stopped, crate::proofs::Requests::taken))]
-pub fn take_record(s: Session, script: &[u8], at: usize) -> Taken
-    requires { Reached s }
-    ensures { (result ≡ record_call script.now at s) × Reached result.session }
-{
-    match record_at(script, at) {
-        Ok((kind, body)) => take(s, kind, body, at + 1 + body.len()),
-        Err(refusal) => Taken {
-            answer: Answer::refused(u32::from(refusal)),
-            next: at,
-            session: s,
-        },
     }
 }
