@@ -2,6 +2,4 @@ pub mod NumberTexts
 pub mod EndsInDecimal
 pub mod Lengths
 pub mod Putting
-pub mod Signs
-pub mod Outcomes
 pub mod Lines

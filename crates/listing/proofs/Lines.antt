@@ -15,7 +15,8 @@ use Rattle.encounter.specs.Calls.{history_of, outcome, Reached}
 use Rattle.records.specs.declared.Taken.{Taken}
 use Rattle.records.specs.RecordCall.{next_at, record_call}
 use Rattle.listing.specs.Line.{line, room}
-use Rattle.listing.specs.Put.{Put}
+use Rattle.listing.specs.declared.script.Piece.{Piece}
+use Rattle.listing.specs.Put.{Put, PutLine}
 use Rattle.listing.proofs.Putting.{dropped}
 use Rattle.listing.specs.Listing.{is_final, lines, listing, Written, nothing, more, PieceOf}
 
@@ -72,79 +73,86 @@ listing_step l i s h =
 
 -- ---- the text so far
 
--- the first bytes of the buffer, then the listing from position i on, are the listing due
-pub record Going (l : List ℕ) (i₀ : ℕ) (s₀ : Session) (before out : List ℕ) (used i : ℕ) (s : Session) : Type 0 where
-  pub written : Written l (length before) i₀ s₀ (take used out) i s
-  pub is : take used out ++ listing l i s ≡ listing l i₀ s₀
-  pub reached : Reached s
-  pub within : used ≤ length out
-  pub rest : drop used out ≡ drop used before
+-- the piece's bytes, then the listing from its next position on, are the listing due, and the piece is not at its end
+pub record Going (l : List ℕ) (i₀ : ℕ) (s₀ : Session) (before out : List ℕ) (p : Piece) : Type 0 where
+  pub written : Written l (length before) i₀ s₀ (take p.used out) p.next p.session
+  pub is : take p.used out ++ listing l p.next p.session ≡ listing l i₀ s₀
+  pub reached : Reached p.session
+  pub within : p.used ≤ length out
+  pub rest : drop p.used out ≡ drop p.used before
   pub same_length : length out ≡ length before
-  pub few : used + room * i₀ ≤ room * i
+  pub few : p.used + room * i₀ ≤ room * p.next
+  pub goes_on : p.ended ≡ false
 
-pub going_start : (l : List ℕ) (i : ℕ) (s : Session) (out : List ℕ) → Reached s → Going l i s out out 0 i s
+pub going_start : (l : List ℕ) (i : ℕ) (s : Session) (out : List ℕ) → Reached s → Going l i s out out (record { used = 0; next = i; session = s; ended = false })
 going_start l i s out h =
-    record { written = nothing; is = refl; reached = h; within = omega arith; rest = refl; same_length = refl; few = omega arith }
+    record { written = nothing; is = refl; reached = h; within = omega arith; rest = refl; same_length = refl; few = omega arith; goes_on = refl }
 
 -- one line more
-module _ (l : List ℕ) (i₀ : ℕ) (s₀ : Session) (before out out' : List ℕ) (used i end : ℕ) (s : Session) (t : Taken) where
+module _ (l : List ℕ) (i₀ : ℕ) (s₀ : Session) (before out out' : List ℕ) (p : Piece) (end : ℕ) (t : Taken) where
   module _
-      (g : Going l i₀ s₀ before out used i s)
-      (h : i < length l)
-      (e : t ≡ record_call l i s)
-      (p : Put out out' used (line i (get_or l i 0) t.answer) end)
-      (r : used + room ≤ length out)
+      (g : Going l i₀ s₀ before out p)
+      (h : p.next < length l)
+      (e : t ≡ record_call l p.next p.session)
+      (put : PutLine out out' p.used p.next (get_or l p.next 0) t.answer end)
+      (m : room ≤ length out - p.used)
     where
+      r : p.used + room ≤ length out
+      r = omega (arith, g.within)
+
+      w : Put out out' p.used (line p.next (get_or l p.next 0) t.answer) end
+      w = put.written r
+
       text : take end out' ++ cond (is_final t.answer) [] (listing l t.next t.session) ≡ listing l i₀ s₀
       text =
-          ap (λ (x : List ℕ). x ++ cond (is_final t.answer) [] (listing l t.next t.session)) p.is
-          ∙ append_assoc (take used out) (line i (get_or l i 0) t.answer) (cond (is_final t.answer) [] (listing l t.next t.session))
-          ∙ ap (λ (x : List ℕ). take used out ++ x)
-          (ap (λ (x : Taken). line i (get_or l i 0) x.answer ++ cond (is_final x.answer) [] (listing l x.next x.session)) e ∙ sym (listing_step l i s h))
+          ap (λ (x : List ℕ). x ++ cond (is_final t.answer) [] (listing l t.next t.session)) w.is
+          ∙ append_assoc (take p.used out) (line p.next (get_or l p.next 0) t.answer) (cond (is_final t.answer) [] (listing l t.next t.session))
+          ∙ ap (λ (x : List ℕ). take p.used out ++ x)
+          (ap (λ (x : Taken). line p.next (get_or l p.next 0) x.answer ++ cond (is_final x.answer) [] (listing l x.next x.session)) e ∙ sym (listing_step l p.next p.session h))
           ∙ g.is
 
       longer : Written l (length before) i₀ s₀ (take end out') t.next t.session
       longer =
-          subst (λ (x : List ℕ). Written l (length before) i₀ s₀ x t.next t.session) (sym p.is)
-          (subst (λ (x : Taken). Written l (length before) i₀ s₀ (take used out ++ line i (get_or l i 0) x.answer) x.next x.session) (sym e)
-          (more g.written h (omega (arith, r, g.same_length, length-take-le used out g.within))))
+          subst (λ (x : List ℕ). Written l (length before) i₀ s₀ x t.next t.session) (sym w.is)
+          (subst (λ (x : Taken). Written l (length before) i₀ s₀ (take p.used out ++ line p.next (get_or l p.next 0) x.answer) x.next x.session) (sym e)
+          (more g.written h (omega (arith, r, g.same_length, length-take-le p.used out g.within))))
 
       fits : end ≤ length out'
       fits =
-          let text = line i (get_or l i 0) t.answer in
-          let a = sym (length-take end out') ∙ ap length p.is ∙ length-append (take used out) text ∙ ap (λ (n : ℕ). n + length text) (length-take-le used out g.within) in
-          omega (arith, a, p.ends)
+          let text = line p.next (get_or l p.next 0) t.answer in
+          let a = sym (length-take end out') ∙ ap length w.is ∙ length-append (take p.used out) text ∙ ap (λ (n : ℕ). n + length text) (length-take-le p.used out g.within) in
+          omega (arith, a, w.ends)
 
       past : drop end out' ≡ drop end before
-      past = p.rest ∙ rw p.ends (dropped out before used (length (line i (get_or l i 0) t.answer)) g.rest)
+      past = w.rest ∙ rw w.ends (dropped out before p.used (length (line p.next (get_or l p.next 0) t.answer)) g.rest)
 
-      pub going_on : is_final t.answer ≡ false → Reached t.session → end ≤ used + room → Going l i₀ s₀ before out' end t.next t.session
-      going_on f w short =
-          let m = next_is l i s t e f in
-          record { written = longer; is = rw f at text; reached = w; within = fits; rest = past; same_length = p.same ∙ g.same_length; few = omega (arith, g.few) }
+      pub going_on : is_final t.answer ≡ false → Reached t.session → Going l i₀ s₀ before out' (record { used = end; next = t.next; session = t.session; ended = p.ended })
+      going_on f q =
+          let m = next_is l p.next p.session t e f in
+          record { written = longer; is = rw f at text; reached = q; within = fits; rest = past; same_length = w.same ∙ g.same_length; few = omega (arith, g.few, put.short); goes_on = g.goes_on }
 
       pub going_stop : is_final t.answer ≡ true → Reached t.session → PieceOf l i₀ s₀ before out' (record { used = end; next = t.next; session = t.session; ended = true })
-      going_stop f w =
-          record { written = longer; is = rw f at text; left = λ z. absurd (subst T z tt); full = λ z. absurd (subst T z tt); few = λ z. absurd (subst T z tt); reached = w; within = fits; rest = past; same = p.same ∙ g.same_length }
+      going_stop f q =
+          record { written = longer; is = rw f at text; left = λ z. absurd (subst T z tt); full = λ z. absurd (subst T z tt); few = λ z. absurd (subst T z tt); reached = q; within = fits; rest = past; same = w.same ∙ g.same_length }
 
 pub going_full :
-    (l : List ℕ) (i₀ : ℕ) (s₀ : Session) (before out : List ℕ) (used i : ℕ) (s : Session) →
-    Going l i₀ s₀ before out used i s →
-    i < length l →
-    length out < used + room →
-    PieceOf l i₀ s₀ before out (record { used = used; next = i; session = s; ended = false })
-going_full l i₀ s₀ before out used i s g k h =
-    record { written = g.written; is = g.is; left = λ n. k; full = λ n. omega (arith, g.same_length); few = λ n. g.few; reached = g.reached; within = g.within; rest = g.rest; same = g.same_length }
+    (l : List ℕ) (i₀ : ℕ) (s₀ : Session) (before out : List ℕ) (p : Piece) →
+    Going l i₀ s₀ before out p →
+    p.next < length l →
+    length out - p.used < room →
+    PieceOf l i₀ s₀ before out p
+going_full l i₀ s₀ before out p g k h =
+    record { written = g.written; is = rw g.goes_on g.is; left = λ n. k; full = λ n. omega (arith, g.same_length, g.within); few = λ n. g.few; reached = g.reached; within = g.within; rest = g.rest; same = g.same_length }
 
 pub going_end :
-    (l : List ℕ) (i₀ : ℕ) (s₀ : Session) (before out : List ℕ) (used i : ℕ) (s : Session) →
-    Going l i₀ s₀ before out used i s →
-    length l ≤ i →
-    PieceOf l i₀ s₀ before out (record { used = used; next = i; session = s; ended = true })
-going_end l i₀ s₀ before out used i s g h =
+    (l : List ℕ) (i₀ : ℕ) (s₀ : Session) (before out : List ℕ) (p : Piece) →
+    Going l i₀ s₀ before out p →
+    length l ≤ p.next →
+    PieceOf l i₀ s₀ before out (record p { ended = true })
+going_end l i₀ s₀ before out p g h =
     record {
       written = g.written;
-      is = rw (listing_end l i s h) at g.is;
+      is = rw (listing_end l p.next p.session h) at g.is;
       left = λ z. absurd (subst T z tt);
       full = λ z. absurd (subst T z tt);
       few = λ z. absurd (subst T z tt);

@@ -3,9 +3,9 @@ use Rattle.std.specs.Prelude.{ℕ, ◌+◌, ◌≤◌, ◌<◌, ◌≡◌, List,
 use Rattle.encounter.specs.declared.state.Answer.{Answer}
 use Rattle.listing.specs.Line.{line, room}
 
--- the buffer has room for the text, from index at on
-pub record RoomFor (buffer : List ℕ) (at : ℕ) (text : List ℕ) : Type 0 where
-  pub enough : at + length text ≤ length buffer
+-- a line of these bytes has room for the text
+pub record RoomFor (before text : List ℕ) : Type 0 where
+  pub enough : length before + length text ≤ room
 
 -- after holds the first at bytes of before, then the text, which ends at index end, and then the bytes of before from there on
 pub record Put (before after : List ℕ) (at : ℕ) (text : List ℕ) (end : ℕ) : Type 0 where

@@ -18,55 +18,40 @@ pub struct Piece {
 }
 
 // Whether the script ends with this answer.
+#[tactic(auto, unfolding(crate::specs::Listing::is_final))]
 fn is_final(a: Answer) -> bool
     ensures { result ≡ is_final a }
 {
-    if a.refusal == 1 {
-        return true;
-    }
-    a.refusal == 2
+    matches!(a.refusal, 1 | 2)
 }
 
 // The lines of the records from a position on, while the buffer has ROOM bytes left.
-#[tactic(auto, using(crate::proofs::Lines::going_full))]
+#[tactic(auto, using(crate::proofs::Lines::going_start, crate::proofs::Lines::going_full, crate::proofs::Lines::going_end, crate::proofs::Lines::next_is))]
 pub fn put_lines(script: &[u8], at: usize, s: Session, out: &mut [u8]) -> Piece
     requires { Reached s }
     ensures { PieceOf script.now at s out.old out.new result }
 {
-    let mut used: usize = 0;
-    let mut i = at;
-    let mut t = s;
-    while i < script.len() {
-        if out.len() - used < ROOM {
-            return Piece {
-                used,
-                next: i,
-                session: t,
-                ended: false,
-            };
+    let mut piece = Piece {
+        used: 0,
+        next: at,
+        session: s,
+        ended: false,
+    };
+    while piece.next < script.len() {
+        if out.len() - piece.used < ROOM {
+            return piece;
         }
-        let kind = script[i];
-        let r = take_record(t, script, i);
-        let answer = r.answer;
-        let session = r.session;
-        used = put_line(out, used, i, kind, answer);
-        if is_final(answer) {
-            return Piece {
-                used,
-                next: r.next,
-                session,
-                ended: true,
-            };
+        let kind = script[piece.next];
+        let taken = take_record(piece.session, script, piece.next);
+        piece.used = put_line(out, piece.used, piece.next, kind, taken.answer);
+        piece.next = taken.next;
+        piece.session = taken.session;
+        if is_final(taken.answer) {
+            break;
         }
-        t = session;
-        i = r.next;
     }
-    Piece {
-        used,
-        next: i,
-        session: t,
-        ended: true,
-    }
+    piece.ended = true;
+    piece
 }
 
 // The line of a script that is too long.

@@ -1,18 +1,21 @@
 // The call of a script's record.
 #![tactic(auto)]
 
-ghost use Rattle.std.specs.Prelude.{◌≡◌, ◌+◌, ◌≤◌, length};
-ghost use Rattle.exact.specs.Records.{u16_at, begin_at, conjunction_at};
-ghost use Rattle.encounter.specs.Session.{refused};
-ghost use Rattle.encounter.specs.Calls.{begins, begins_conjunction, adds, call, Reached};
+ghost use Rattle.std.specs.Prelude.{◌≡◌, ◌≤◌, length, MatchResult};
+ghost use Rattle.exact.specs.Records.{begin_at, conjunction_at, body_length, request_of};
+ghost use Rattle.exact.specs.Kinds.{kind_byte};
+ghost use Rattle.encounter.specs.Calls.{history_of, outcome, Reached};
 ghost use Rattle.records.specs.RecordCall.{record_call};
 ghost use Rattle.records.specs.Private.Made.{made_of};
+ghost use Rattle.records.specs.Private.Record.{RecordAt, NoRecordAt};
 
 mod bytes;
 
-use crate::bytes::{signed_at, u16_at, u32_at};
+use crate::bytes::{i32_at, u16_at, u32_at};
 use encounter::calls;
 use encounter::state::{Answer, Called, Session};
+use exact::kinds::Kind;
+use exact::refusals::Refusal;
 use exact::{Conjunction, Encounter};
 
 // What a record's call answers, the position of the next record, and the session after it.
@@ -23,122 +26,86 @@ pub struct Taken {
     pub session: Session,
 }
 
-// The five inputs of a body that lies within the script.
-fn encounter_at(script: &[u8], at: usize) -> Encounter
-    requires { at + 20 ≤ length script.now }
-    ensures { result ≡ begin_at script.now at }
+// The five inputs that a body begins with.
+fn encounter_in(body: &[u8]) -> Encounter
+    requires { 20 ≤ length body.now }
+    ensures { result ≡ begin_at body.now 0 }
 {
-    let R = u32_at(script, at);
-    let sx = u32_at(script, at + 4);
-    let sy = u32_at(script, at + 8);
-    let xm = signed_at(script, at + 12);
-    let ym = signed_at(script, at + 16);
-    Encounter { R, sx, sy, xm, ym }
+    Encounter {
+        R: u32_at(body, 0),
+        sx: u32_at(body, 4),
+        sy: u32_at(body, 8),
+        xm: i32_at(body, 12),
+        ym: i32_at(body, 16),
+    }
 }
 
 // The same, then the object number and the time.
-fn conjunction_at(script: &[u8], at: usize) -> Conjunction
-    requires { at + 28 ≤ length script.now }
-    ensures { result ≡ conjunction_at script.now at }
+fn conjunction_in(body: &[u8]) -> Conjunction
+    requires { 28 ≤ length body.now }
+    ensures { result ≡ conjunction_at body.now 0 }
 {
-    let encounter = encounter_at(script, at);
-    let object = u32_at(script, at + 20);
-    let time = u32_at(script, at + 24);
     Conjunction {
-        encounter,
-        object,
-        time,
+        encounter: encounter_in(body),
+        object: u32_at(body, 20),
+        time: u32_at(body, 24),
     }
 }
 
-// A record that ends the script.
-fn stop(r: u32, at: usize, s: Session) -> Taken
-    ensures { result ≡ record { answer = refused r; next = at; session = s } }
+// The kind and the body of the record at a position.
+#[tactic(auto, using(crate::proofs::Requests::no_byte, crate::proofs::Requests::no_kind))]
+fn record_at(script: &[u8], at: usize) -> Result<(Kind, &[u8]), Refusal>
+    ensures { MatchResult result (λ r. RecordAt script.now at r.0 r.1.now) (λ e. NoRecordAt script.now at e) }
 {
-    Taken {
-        answer: Answer::refused(r),
-        next: at,
-        session: s,
+    let byte = script.get(at).ok_or(Refusal::NoKind)?;
+    let kind = Kind::try_from(*byte)?;
+    let body = script[at + 1..]
+        .get(..kind.body_length())
+        .ok_or(Refusal::ShortBody)?;
+    Ok((kind, body))
+}
+
+impl Taken {
+    // A record whose call was made.
+    fn made(c: Called, next: usize) -> Taken
+        ensures { result ≡ made_of c next }
+    {
+        Taken {
+            answer: c.answer,
+            next,
+            session: c.session,
+        }
     }
-}
-
-// A record whose call was made.
-fn made(c: Called, next: usize) -> Taken
-    ensures { result ≡ made_of c next }
-{
-    let answer = c.answer;
-    let session = c.session;
-    Taken {
-        answer,
-        next,
-        session,
-    }
-}
-
-// A begin whose body lies within the script.
-fn take_begin(s: Session, script: &[u8], at: usize) -> Taken
-    requires { (at + 21 ≤ length script.now) × Reached s }
-    ensures { result ≡ made_of (call (begins (begin_at script.now (at + 1))) s) (at + 21) }
-{
-    let E = encounter_at(script, at + 1);
-    made(calls::begin(s, E), at + 21)
-}
-
-// A begin with object and time, whose body lies within the script.
-fn take_begin_conjunction(s: Session, script: &[u8], at: usize) -> Taken
-    requires { (at + 29 ≤ length script.now) × Reached s }
-    ensures { result ≡ made_of (call (begins_conjunction (conjunction_at script.now (at + 1))) s) (at + 29) }
-{
-    let C = conjunction_at(script, at + 1);
-    made(calls::begin_conjunction(s, C), at + 29)
-}
-
-// An add whose body lies within the script.
-fn take_add(s: Session, script: &[u8], at: usize) -> Taken
-    requires { (at + 3 ≤ length script.now) × Reached s }
-    ensures { result ≡ made_of (call (adds (u16_at script.now (at + 1))) s) (at + 3) }
-{
-    let count = u16_at(script, at + 1) as u16;
-    made(calls::add(s, count), at + 3)
 }
 
 // The call that the record at a position asks for. After refusal 1 or 2 `next` is that position itself: the script ends there. The script is lent for reading only.
-#[tactic(auto, using(crate::proofs::Requests::begin_stopped))]
+#[tactic(auto, using(crate::proofs::Requests::stopped, crate::proofs::Requests::taken), unfolding(exact::specs::Records::body_length, exact::specs::Records::request_of))]
 pub fn take_record(s: Session, script: &[u8], at: usize) -> Taken
     requires { Reached s }
     ensures { (result ≡ record_call script.now at s) × Reached result.session }
 {
-    if script.len() <= at {
-        return stop(1, at, s);
-    }
-    let kind = script[at];
-    let left = script.len() - at;
-    if kind == 1 {
-        if left < 21 {
-            return stop(2, at, s);
+    let (kind, body) = match record_at(script, at) {
+        Ok(record) => record,
+        Err(refusal) => {
+            return Taken {
+                answer: Answer::refused(u32::from(refusal)),
+                next: at,
+                session: s,
+            };
         }
-        return take_begin(s, script, at);
-    }
-    if kind == 2 {
-        if left < 3 {
-            return stop(2, at, s);
-        }
-        return take_add(s, script, at);
-    }
-    if kind == 3 {
-        let answer = calls::read(s);
-        let next = at + 1;
-        return Taken {
-            answer,
+    };
+    let next = at + 1 + body.len();
+    match kind {
+        Kind::Begin => Taken::made(calls::begin(s, encounter_in(body)), next),
+        Kind::Add => Taken::made(calls::add(s, u16_at(body, 0)), next),
+        Kind::Read => Taken {
+            answer: calls::read(s),
             next,
             session: s,
-        };
+        },
+        Kind::BeginConjunction => Taken::made(
+            calls::begin_conjunction(s, conjunction_in(body)),
+            next,
+        ),
     }
-    if kind == 4 {
-        if left < 29 {
-            return stop(2, at, s);
-        }
-        return take_begin_conjunction(s, script, at);
-    }
-    stop(1, at, s)
 }
