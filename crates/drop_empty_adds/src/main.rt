@@ -35,11 +35,11 @@ fn copy<R: Read, W: Write>(input: &mut R, output: &mut W) -> Result<(), &'static
     ensures { OnOk result (IfSome (R.remaining input.old) (λ script. Appends (W.contents output.old) (W.contents output.new) (dropped script))) }
 {
     let mut kept = [0u8; KEPT];
-    let script = read_script(input, &mut kept).map_err(|_| UNREAD)?;
-    if LARGEST_SCRIPT < script.len() {
+    let n = read_script(input, &mut kept).map_err(|_| UNREAD)?;
+    if LARGEST_SCRIPT < n {
         return Err(TOO_LONG);
     }
-    run(output, script).map_err(|_| UNWRITTEN)?;
+    run(output, &mut kept[..n]).map_err(|_| UNWRITTEN)?;
     Ok(())
 }
 

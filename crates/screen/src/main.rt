@@ -65,8 +65,8 @@ fn screen<R: Read, W: Write>(input: &mut R, output: &mut W) -> Result<(), &'stat
     ensures { OnOk result (IfSome (R.remaining input.old) (λ script. Appends (W.contents output.old) (W.contents output.new) (printed script))) }
 {
     let mut kept = [0u8; KEPT];
-    let script = read_script(input, &mut kept).map_err(|_| UNREAD)?;
-    run(output, script).map_err(|_| UNWRITTEN)?;
+    let n = read_script(input, &mut kept).map_err(|_| UNREAD)?;
+    run(output, &kept[..n]).map_err(|_| UNWRITTEN)?;
     Ok(())
 }
 

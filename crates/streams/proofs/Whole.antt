@@ -6,7 +6,8 @@ use Prim.Native.Nat.{ℕ, ◌≤◌, ◌<◌}
 use native.Mathlib.Omega.{arith}
 use borrow.Author.Tests.{ltb-true, ltb-false}
 use lib.Dec.{ltb, T}
-use lib.ListN.{length}
+use lib.ListN.{length, take}
+use Rattle.std.proofs.Common.{length-take-le}
 use Rattle.std.specs.Prelude.{Some, None, Ok, Err, IfSome, IfOk, MatchResult, is_ok}
 use Rattle.std.specs.declared.option.Option.{Option}
 use Rattle.std.specs.declared.result.Result.{Result}
@@ -36,3 +37,16 @@ of_all f no_further (Some l) (Some rest) n script w w' s a p = subst (Appends w 
     go : (t : Bool) → ltb (length script) n ≡ t → f (script ++ rest) ≡ f script
     go true e = ap f (ap (λ (r : List ℕ). script ++ r) (a.1 (ltb-true (length script) n e)) ∙ append-nil script)
     go false e = no_further script rest (s.1 (omega (arith, s.0, ltb-false (length script) n e)))
+
+-- the same where the script is the first m bytes of the buffer
+pub of_first :
+    (f : List ℕ → List ℕ) →
+    ((l rest : List ℕ) → largest_script < length l → f (l ++ rest) ≡ f l) →
+    (before after : Option (List ℕ)) (buffer : List ℕ) (m : ℕ) (w w' : Option (List ℕ)) →
+    (m ≤ length buffer) × (m ≡ length buffer → largest_script < m) →
+    Consumes before after (take m buffer) × (m < length buffer → IsAtEnd after) →
+    Appends w w' (f (take m buffer)) →
+    IfSome before (λ l. Appends w w' (f l))
+of_first f no_further before after buffer m w w' s a p =
+    let e : length (take m buffer) ≡ m = length-take-le m buffer s.0 in
+    of_all f no_further before after (length buffer) (take m buffer) w w' (rw e s) (a.0, rw e a.1) p

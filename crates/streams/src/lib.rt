@@ -1,7 +1,6 @@
 // A script from standard input.
 #![tactic(auto)]
 
-ghost use Rattle.std.specs.Prelude.{IfOk};
 ghost use Rattle.streams.specs.Reading.{AllBytes, NextBytes, ReadInto, ScriptIn};
 
 use exact::LARGEST_SCRIPT;
@@ -28,10 +27,11 @@ fn read_some<R: Read>(input: &mut R, buf: &mut [u8]) -> io::Result<usize>
     Err(ErrorKind::Interrupted.into())
 }
 
-// Reads the script: up to the end of the input, or until the buffer is full.
-pub fn read_script<'a, R: Read>(input: &mut R, buf: &'a mut [u8; KEPT]) -> io::Result<&'a mut [u8]>
-    ensures within { IfOk result (λ script. ScriptIn buf.old script.now) }
-    ensures bytes { IfOk result (λ script. AllBytes (R.remaining input.old) (R.remaining input.new) buf.old script.now) }
+// Reads the script: up to the end of the input, or until the buffer is full. Answers how many bytes it has, and not the part of the buffer that it fills, since
+// the promises are about the buffer after the call.
+pub fn read_script<R: Read>(input: &mut R, buf: &mut [u8; KEPT]) -> io::Result<usize>
+    ensures within { ScriptIn buf.new result }
+    ensures bytes { AllBytes (R.remaining input.old) (R.remaining input.new) buf.new result }
 {
     let mut done = 0;
     while done < KEPT {
@@ -40,5 +40,5 @@ pub fn read_script<'a, R: Read>(input: &mut R, buf: &'a mut [u8; KEPT]) -> io::R
             n => done += n,
         }
     }
-    Ok(&mut buf[..done])
+    Ok(done)
 }
