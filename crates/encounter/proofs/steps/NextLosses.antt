@@ -1,5 +1,5 @@
 -- An encounter's next terms and their losses, where nothing was lost before.
-use mathlib.Core.Path.{◌≡◌, sym, ◌∙◌, ap, subst}
+use mathlib.Core.Path.{◌≡◌, sym, ◌∙◌, ap}
 use mathlib.Core.Bool.{Bool, true, false, not, ◌||◌, not-not}
 use Prim.Native.Nat.{ℕ, suc}
 use borrow.Author.Tests.{not-true}
@@ -7,9 +7,8 @@ use Rattle.exact.specs.declared.Encounter.{Encounter}
 use Rattle.exact.specs.declared.Traced.{Traced}
 use Rattle.exact.specs.Arithmetic.{rounded, rounding, traced}
 use Rattle.exact.specs.Losses.{term_numbers, traced_letters, traced_terms, term_lost, operand_lost, either_lost, lossless}
-use Rattle.exact.specs.Private.Ranges.{largest_exponent, LettersAll, TermsAll, LettersIn, TermsIn}
 use Rattle.exact.specs.Private.Clean.{clean_letters, clean_terms}
-use Rattle.exact.specs.Steps.{LettersOf, TermsOf, next_c, next_p, next_v, next_y, next, terms, side_letters, side_terms}
+use Rattle.exact.specs.Steps.{TermsOf, next_c, next_p, next_v, next_y, next, terms, side_letters, side_terms}
 use Rattle.exact.proofs.Accepted.{neither}
 use Rattle.exact.proofs.Losses.{clean_term, clean_operand}
 use Rattle.encounter.specs.declared.state.Letters.{Letters}
@@ -17,16 +16,9 @@ use Rattle.encounter.specs.declared.state.Terms.{Terms}
 use Rattle.encounter.specs.declared.steps.losses.Losses.{Losses}
 use Rattle.encounter.specs.declared.steps.numbers.LetterSet.{LetterSet}
 use Rattle.encounter.specs.declared.steps.numbers.TermSet.{TermSet}
-use Rattle.encounter.specs.Private.Operations.{TracedIn}
 use Rattle.encounter.specs.Private.Held.{step_letters, step_terms, held_terms, set_letters, set_terms, CleanLosses}
 
 -- ---- a side's losses one index on, from clean numbers
-
-pub clean_letters_fine : {l : Letters} {w : LetterSet Traced} → set_letters w ≡ clean_letters (step_letters l) → LettersIn (step_letters l) → LettersAll TracedIn (set_letters w)
-clean_letters_fine e i = subst (λ (x : LettersOf Traced). LettersAll TracedIn x) (sym e) (record { u = i.u; h = i.h; X = i.X; Y = i.Y; t = i.t })
-
-pub clean_terms_fine : {s : Terms} {w : TermSet Traced} → set_terms w ≡ clean_terms (step_terms s) → TermsIn largest_exponent (step_terms s) → TermsAll TracedIn largest_exponent (set_terms w)
-clean_terms_fine e i = subst (λ (x : TermsOf Traced). TermsAll TracedIn largest_exponent x) (sym e) (record { c = i.c; p = i.p; v = i.v; y = i.y; sum = i.sum })
 
 pub clean_losses_are : (up : Bool) (n : ℕ) {l : Letters} {s : Terms} {w : LetterSet Traced} {t x : TermSet Traced} {r : Losses}
     → set_letters w ≡ clean_letters (step_letters l) → set_terms t ≡ clean_terms (step_terms s) → set_terms x ≡ next (traced up 32) (set_letters w) n (set_terms t)

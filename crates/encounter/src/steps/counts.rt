@@ -6,7 +6,7 @@ ghost use Rattle.encounter.specs.Private.Held.{counts, counting, Begun};
 use crate::state::{Session, Terms};
 use crate::steps::losses::{either_side, side_step};
 
-// How many of the first terms are exact, and 1 where nothing was lost on the way to what the next term is formed of, else 0.
+// How many of the first terms are exact, and 1 where nothing was lost on the way to what the next term is formed of, else 0: a number, as in a session, whose layout C has.
 #[derive(Clone, Copy)]
 pub struct Counts {
     pub exact: u32,

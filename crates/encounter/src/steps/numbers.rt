@@ -4,7 +4,7 @@ ghost use Rattle.std.specs.Prelude.{◌≡◌, ℕ, ◌^◌, ◌≤◌, ◌<◌}
 ghost use Rattle.exact.specs.Arithmetic.{Arithmetic};
 ghost use Rattle.exact.proofs.Growth.{Keeps};
 
-// A side's letters.
+// A side's letters. What converts letters or terms is a struct literal: a `map` over a closure would need a clause for each of its five calls.
 #[derive(Clone, Copy)]
 pub struct LetterSet<T> {
     pub u: T,

@@ -1,13 +1,7 @@
-use native.Mathlib.Nat.{mul-pos}
-use native.Mathlib.Omega.{arith}
 use Rattle.exact.specs.Arithmetic.{traced}
 use Rattle.exact.specs.Series.{a₀}
 use Rattle.exact.specs.Steps.{start}
 use Rattle.encounter.proofs.steps.letters.start.Goals as goal
-
-pub ratio-requires : goal.ratio-requires
-ratio-requires c =
-    (omega (arith, c.times.ensures.1), omega (arith, c.times-2.ensures.1), omega (arith, c.times-2.ensures.0, mul-pos c.requires.sx_pos c.requires.sy_pos))
 
 pub returns : goal.returns
 unfolding start a₀ traced

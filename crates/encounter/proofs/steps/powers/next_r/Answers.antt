@@ -6,9 +6,6 @@ use Rattle.exact.proofs.Exponents.{in_range}
 use Rattle.encounter.proofs.steps.BothSides.{product_side, quotient_side}
 use Rattle.encounter.proofs.steps.powers.next_r.Goals as goal
 
-pub product-requires : goal.product-requires
-product-requires c = (λ up. widen (lit≤ tt) (c.requires.1 up).1, λ up. widen (lit≤ tt) (c.requires.1 up).0)
-
 pub over-requires : goal.over-requires
 over-requires c =
     ((λ up. rw (product_side up _ _ c.product.ensures) (widen (lit≤ tt) ((in_range up).product (c.requires.1 up).1 (c.requires.1 up).0))), omega arith, omega (arith, c.requires.0))

@@ -1,4 +1,3 @@
-use mathlib.Core.Path.{◌∙◌}
 use mathlib.Core.Bool.{true}
 use native.Mathlib.Nat.{zero-lt-suc}
 use lib.Dec.{lit≤}
@@ -7,13 +6,7 @@ use Rattle.exact.proofs.Exponents.{in_range}
 use Rattle.exact.proofs.Ranges.{widen}
 use Rattle.encounter.proofs.steps.terms.first_tail.Goals as goal
 
-pub next_tail-requires : goal.next_tail-requires
-next_tail-requires c = (lit≤ tt, rw c.from.ensures c.requires.0, rw c.from-2.ensures (widen (lit≤ tt) c.requires.1))
-
 pub narrowed-requires : goal.narrowed-requires
 unfolding next_d
 narrowed-requires c =
     rw (c.next_tail.ensures, c.from.ensures, c.from-2.ensures) (widen (lit≤ tt) ((in_range true).quotient _ (zero-lt-suc _) (lit≤ tt) ((in_range true).product c.requires.1 c.requires.0)))
-
-pub returns : goal.returns
-returns c = c.narrowed.ensures ∙ rw (c.from.ensures, c.from-2.ensures) at c.next_tail.ensures

@@ -9,16 +9,6 @@ product-hv-requires g c =
     let K = g.met.A.Operations.keeps c.args.x in
     (K.more (lit≤ tt) c.requires.1.h, K.more (lit≤ tt) c.requires.2.v)
 
-pub product-hy-requires : goal.product-hy-requires
-product-hy-requires g c =
-    let K = g.met.A.Operations.keeps c.args.x in
-    (K.more (lit≤ tt) c.requires.1.h, K.more (lit≤ tt) c.requires.2.y)
-
-pub over_by-requires : goal.over_by-requires
-over_by-requires g c =
-    let K = g.met.A.Operations.keeps c.args.x in
-    (K.more (lit≤ tt) c.requires.2.p, c.divisor-by.ensures.1)
-
 pub sum-requires : goal.sum-requires
 sum-requires g c =
     let K = g.met.A.Operations.keeps c.args.x in
