@@ -184,7 +184,6 @@ use crate::words::put;
 use crate::words::put_scaled;
 use crate::words::unsigned;
 use crate::words::word;
-use advice::Advice;
 use advice::advise;
 use encounter::calls;
 use encounter::state::Answer;
@@ -195,6 +194,7 @@ use encounter::state::Side;
 use exact::Conjunction;
 use exact::Encounter;
 use exact::Scaled;
+use exact::refusals::Refusal;
 use host::Doubles;
 use host::PlotRecord;
 use host::Plotted;
@@ -299,11 +299,11 @@ fn put_three(line: &mut [u8], at: usize, refusal: u32, has_order: u32, order: u3
     put(line, next, order)
 }
 
-fn put_advice(line: &mut [u8], at: usize, a: Advice) -> usize {
+fn put_advice(line: &mut [u8], at: usize, a: Result<Option<u16>, Refusal>) -> usize {
     match a {
-        Advice::Order(N) => put_three(line, at, 0, 1, N as u32),
-        Advice::None => put_three(line, at, 0, 0, 0),
-        Advice::Refused(r) => put_three(line, at, r, 0, 0),
+        Ok(Some(N)) => put_three(line, at, 0, 1, u32::from(N)),
+        Ok(None) => put_three(line, at, 0, 0, 0),
+        Err(refusal) => put_three(line, at, u32::from(refusal), 0, 0),
     }
 }
 
