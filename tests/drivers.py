@@ -503,9 +503,12 @@ fn main(rt: HostRuntime) -> io::Result<()> {
     let mut line = [10u8; 25];
     while let Ok(()) = input.read_exact(&mut b) {
         let x = Scaled { m: word(&b, 1), e: signed(word(&b, 5)) };
-        let a = divide(b[0] == 1, x, word(&b, 9));
-        let next = put(&mut line, 0, a.refusal);
-        put_scaled(&mut line, next, a.quotient);
+        let (refusal, quotient) = match divide(b[0] == 1, x, word(&b, 9)) {
+            Ok(quotient) => (0, quotient),
+            Err(refusal) => (u32::from(refusal), Scaled::ZERO),
+        };
+        let next = put(&mut line, 0, refusal);
+        put_scaled(&mut line, next, quotient);
         output.write_all(&line)?;
     }
     Ok(())
