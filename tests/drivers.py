@@ -197,7 +197,6 @@ use exact::Scaled;
 use exact::refusals::Refusal;
 use host::Doubles;
 use host::PlotRecord;
-use host::Plotted;
 use host::read_doubles;
 use host::read_plot_record;
 use std::io;
@@ -320,11 +319,11 @@ fn put_ends(line: &mut [u8], at: usize, refusal: u32, tag: u32, lower: f64, uppe
     put_double(line, next, upper)
 }
 
-fn put_doubles(line: &mut [u8], at: usize, d: Doubles) -> usize {
+fn put_doubles(line: &mut [u8], at: usize, d: Result<Doubles, Refusal>) -> usize {
     match d {
-        Doubles::Both(lower, upper) => put_ends(line, at, 0, 2, lower, upper),
-        Doubles::Unbounded(lower) => put_ends(line, at, 0, 1, lower, 0.0),
-        Doubles::Refused(r) => put_ends(line, at, r, 0, 0.0, 0.0),
+        Ok(Doubles::Both(lower, upper)) => put_ends(line, at, 0, 2, lower, upper),
+        Ok(Doubles::Unbounded(lower)) => put_ends(line, at, 0, 1, lower, 0.0),
+        Err(refusal) => put_ends(line, at, u32::from(refusal), 0, 0.0, 0.0),
     }
 }
 
@@ -337,15 +336,11 @@ fn put_record(line: &mut [u8], at: usize, refusal: u32, tag: u32, r: PlotRecord)
     put_double(line, next, r.difference)
 }
 
-fn no_record() -> PlotRecord {
-    PlotRecord { object: 0, lower: 0.0, upper: 0.0, difference: 0.0 }
-}
-
-fn put_plotted(line: &mut [u8], at: usize, p: Plotted) -> usize {
+fn put_plotted(line: &mut [u8], at: usize, p: Result<Option<PlotRecord>, Refusal>) -> usize {
     match p {
-        Plotted::Record(r) => put_record(line, at, 0, 2, r),
-        Plotted::Unbounded => put_record(line, at, 0, 1, no_record()),
-        Plotted::Refused(r) => put_record(line, at, r, 0, no_record()),
+        Ok(Some(r)) => put_record(line, at, 0, 2, r),
+        Ok(None) => put_record(line, at, 0, 1, PlotRecord::default()),
+        Err(refusal) => put_record(line, at, u32::from(refusal), 0, PlotRecord::default()),
     }
 }
 
