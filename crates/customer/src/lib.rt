@@ -61,19 +61,25 @@ fn by_value(
     calls::begin_conjunction(s, C);
     calls::add(s, count);
     calls::read(s);
-    calls::reading(s);
-    advise(s);
+    let _ = calls::reading(s);
+    let _ = advise(s);
     jinthuol_advise(s);
     take_record(s, script, at);
     put_lines(script, at, s, out)
 }
 
 // The calls of a plotting tool.
-fn for_a_host(C: Conjunction, E: Encounter, count: u16, script: &[u8], at: usize) -> Result<Doubles, Refusal> {
+fn for_a_host(
+    C: Conjunction,
+    E: Encounter,
+    count: u16,
+    script: &[u8],
+    at: usize,
+) -> Result<Doubles, Refusal> {
     let session = used(C, E, count, script, at);
     jinthuol_read_doubles(session);
     jinthuol_read_plot_record(session);
-    read_plot_record(session);
+    let _ = read_plot_record(session);
     read_doubles(session)
 }
 
