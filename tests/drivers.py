@@ -186,7 +186,6 @@ use crate::words::put;
 use crate::words::put_scaled;
 use crate::words::unsigned;
 use crate::words::word;
-use advice::Advice;
 use advice::advise;
 use encounter::calls;
 use encounter::state::Answer;
@@ -197,9 +196,9 @@ use encounter::state::Side;
 use exact::Conjunction;
 use exact::Encounter;
 use exact::Scaled;
+use exact::refusals::Refusal;
 use host::Doubles;
 use host::PlotRecord;
-use host::Plotted;
 use host::read_doubles;
 use host::read_plot_record;
 use std::io;
@@ -301,11 +300,11 @@ fn put_three(line: &mut [u8], at: usize, refusal: u32, has_order: u32, order: u3
     put(line, next, order)
 }
 
-fn put_advice(line: &mut [u8], at: usize, a: Advice) -> usize {
+fn put_advice(line: &mut [u8], at: usize, a: Result<Option<u16>, Refusal>) -> usize {
     match a {
-        Advice::Order(N) => put_three(line, at, 0, 1, N as u32),
-        Advice::None => put_three(line, at, 0, 0, 0),
-        Advice::Refused(r) => put_three(line, at, r, 0, 0),
+        Ok(Some(N)) => put_three(line, at, 0, 1, u32::from(N)),
+        Ok(None) => put_three(line, at, 0, 0, 0),
+        Err(refusal) => put_three(line, at, u32::from(refusal), 0, 0),
     }
 }
 
@@ -322,11 +321,11 @@ fn put_ends(line: &mut [u8], at: usize, refusal: u32, tag: u32, lower: f64, uppe
     put_double(line, next, upper)
 }
 
-fn put_doubles(line: &mut [u8], at: usize, d: Doubles) -> usize {
+fn put_doubles(line: &mut [u8], at: usize, d: Result<Doubles, Refusal>) -> usize {
     match d {
-        Doubles::Both(lower, upper) => put_ends(line, at, 0, 2, lower, upper),
-        Doubles::Unbounded(lower) => put_ends(line, at, 0, 1, lower, 0.0),
-        Doubles::Refused(r) => put_ends(line, at, r, 0, 0.0, 0.0),
+        Ok(Doubles::Both(lower, upper)) => put_ends(line, at, 0, 2, lower, upper),
+        Ok(Doubles::Unbounded(lower)) => put_ends(line, at, 0, 1, lower, 0.0),
+        Err(refusal) => put_ends(line, at, u32::from(refusal), 0, 0.0, 0.0),
     }
 }
 
@@ -339,15 +338,11 @@ fn put_record(line: &mut [u8], at: usize, refusal: u32, tag: u32, r: PlotRecord)
     put_double(line, next, r.difference)
 }
 
-fn no_record() -> PlotRecord {
-    PlotRecord { object: 0, lower: 0.0, upper: 0.0, difference: 0.0 }
-}
-
-fn put_plotted(line: &mut [u8], at: usize, p: Plotted) -> usize {
+fn put_plotted(line: &mut [u8], at: usize, p: Result<Option<PlotRecord>, Refusal>) -> usize {
     match p {
-        Plotted::Record(r) => put_record(line, at, 0, 2, r),
-        Plotted::Unbounded => put_record(line, at, 0, 1, no_record()),
-        Plotted::Refused(r) => put_record(line, at, r, 0, no_record()),
+        Ok(Some(r)) => put_record(line, at, 0, 2, r),
+        Ok(None) => put_record(line, at, 0, 1, PlotRecord::default()),
+        Err(refusal) => put_record(line, at, u32::from(refusal), 0, PlotRecord::default()),
     }
 }
 
@@ -505,9 +500,12 @@ fn main(rt: HostRuntime) -> io::Result<()> {
     let mut line = [10u8; 25];
     while let Ok(()) = input.read_exact(&mut b) {
         let x = Scaled { m: word(&b, 1), e: signed(word(&b, 5)) };
-        let a = divide(b[0] == 1, x, word(&b, 9));
-        let next = put(&mut line, 0, a.refusal);
-        put_scaled(&mut line, next, a.quotient);
+        let (refusal, quotient) = match divide(b[0] == 1, x, word(&b, 9)) {
+            Ok(quotient) => (0, quotient),
+            Err(refusal) => (u32::from(refusal), Scaled::ZERO),
+        };
+        let next = put(&mut line, 0, refusal);
+        put_scaled(&mut line, next, quotient);
         output.write_all(&line)?;
     }
     Ok(())

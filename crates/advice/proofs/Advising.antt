@@ -8,6 +8,8 @@ use native.Mathlib.Nat.{eq-zero-or-pos}
 use native.Mathlib.Omega.{arith}
 use borrow.Author.Tests.{ltb-true, ltb-false}
 use lib.Dec.{ltb}
+use Rattle.std.specs.Prelude.{Option, Some, None, Ok, Err}
+use Rattle.exact.specs.declared.refusals.Refusal.TheVariants.{NotBegun}
 use Rattle.exact.specs.declared.Encounter.{Encounter}
 use Rattle.exact.specs.declared.Scaled.{Scaled}
 use Rattle.exact.specs.Fraction.{◌≼◌, ◌⊗◌, ◌over◌, whole}
@@ -24,8 +26,6 @@ use Rattle.encounter.specs.Enclosure.{Encloses}
 use Rattle.encounter.specs.Private.Held.{Begun}
 use Rattle.encounter.proofs.calls.Answering.{history_none, history_some, add_taken, read_taken}
 use Rattle.encounter.proofs.calls.Invariant.{begun, told, encloses}
-use Rattle.advice.specs.declared.Advice.{Advice}
-use Rattle.advice.specs.declared.Advice.TheVariants.{Order, None, Refused}
 use Rattle.advice.specs.Orders.{largest_M, Enough, Orders}
 use Rattle.advice.specs.Private.Order.{order_for, IsEntry}
 use Rattle.advice.specs.Advice.{taken_up, entry_for, advice, Says}
@@ -34,6 +34,7 @@ use Rattle.advice.proofs.Enough.{later}
 use Rattle.advice.proofs.TakenUp.{not_below, least, one_at_least}
 use Rattle.advice.proofs.TailBound.{tail_small}
 use Rattle.advice.proofs.Test.{first, range, entries}
+use Rattle.advice.specs.Private.Positive.{Positive}
 use Rattle.advice.proofs.Upper.{M_is, M_positive}
 
 -- test 23 passes where 2W is at most N + 2, for a whole W not below M
@@ -43,11 +44,11 @@ passes E W N m l = above_no _ _ (≼_trans (mul_mono (≼_refl (whole 2)) m) (un
 
 -- ---- the answer
 
-pub advice_none : (s : Session) → s.N ≡ 0 → Refused 21 ≡ advice s
+pub advice_none : (s : Session) → s.N ≡ 0 → Err NotBegun ≡ advice s
 unfolding advice
 advice_none s z = rw (history_none s z)
 
-advice_some : (s : Session) → (s.N ≡ 0 → ⊥) → advice s ≡ entry_for (taken_up (value (M s.encounter)))
+advice_some : (s : Session) → (s.N ≡ 0 → ⊥) → advice s ≡ Ok (entry_for (taken_up (value (M s.encounter))))
 unfolding advice
 advice_some s some = rw (history_some s some)
 
@@ -55,8 +56,15 @@ not_empty : (s : Session) → Begun s → s.N ≡ 0 → ⊥
 not_empty s b z = omega (arith, b.low, z)
 
 -- the code's answer, on a session with an encounter
-pub advice_is : (s : Session) → Begun s → entry_for (taken_up (value s.M)) ≡ advice s
-advice_is s b = ap (λ (x : Scaled). entry_for (taken_up (value x))) (M_is s b) ∙ sym (advice_some s (not_empty s b))
+advice_is : (s : Session) → Begun s → Ok (entry_for (taken_up (value s.M))) ≡ advice s
+advice_is s b = ap (λ (x : Scaled). Ok (entry_for (taken_up (value x)))) (M_is s b) ∙ sym (advice_some s (not_empty s b))
+
+-- the same from what the code has
+pub held_positive : (s : Session) → Reached s → (s.N ≡ 0 → ⊥) → Positive s.M
+held_positive s r some = M_positive s (begun s r some)
+
+pub advice_some_is : (s : Session) (a : Option ℕ) → Reached s → (s.N ≡ 0 → ⊥) → a ≡ entry_for (taken_up (value s.M)) → Ok a ≡ advice s
+advice_some_is s a r some e = ap Ok e ∙ advice_is s (begun s r some)
 
 -- a session from the calls is empty or has an encounter
 empty_or_begun : (s : Session) → Reached s → (s.N ≡ 0) ⊎ Begun s
@@ -74,14 +82,16 @@ mixed s s' r z b e =
 same : {s s' : Session} → Reached s → Reached s' → s.encounter ≡ s'.encounter → advice s ≡ advice s'
 same {s} {s'} r r' e = ⊎_elim
     (λ z. ⊎_elim (λ z'. sym (advice_none s z) ∙ advice_none s' z') (λ b'. absurd (mixed s s' r z b' e)) (empty_or_begun s' r'))
-    (λ b. ⊎_elim (λ z'. absurd (mixed s' s r' z' b (sym e))) (λ b'. advice_some s (not_empty s b) ∙ ap (λ (E : Encounter). entry_for (taken_up (value (M E)))) e ∙ sym (advice_some s' (not_empty s' b'))) (empty_or_begun s' r'))
+    (λ b. ⊎_elim (λ z'. absurd (mixed s' s r' z' b (sym e))) (λ b'. advice_some s (not_empty s b) ∙ ap (λ (E : Encounter). Ok (entry_for (taken_up (value (M E))))) e ∙ sym (advice_some s' (not_empty s' b'))) (empty_or_begun s' r'))
     (empty_or_begun s r)
 
 -- what the entry for the session's M says of the session
-pub entry_says : (s : Session) → Begun s → (a : Advice) → IsEntry (taken_up (value s.M)) a → Says s a
-entry_says s b (Order n) (l, h) = (b.low, l, h)
+entry_says : (s : Session) → Begun s → (a : Option ℕ) → IsEntry (taken_up (value s.M)) a → Says s (Ok a)
+entry_says s b (Some n) (l, h) = (b.low, l, h)
 entry_says s b None l = (b.low, l)
-entry_says s b (Refused r) h = absurd h
+
+pub says_entry : (s : Session) (a : Option ℕ) → Reached s → (s.N ≡ 0 → ⊥) → IsEntry (taken_up (value s.M)) a → Says s (Ok a)
+says_entry s a r some h = entry_says s (begun s r some) a h
 
 -- ---- by a table of orders
 
@@ -90,7 +100,7 @@ module _ {table : List ℕ} (o : Orders table) where
   unfolding entry_for
   entry_is W p = go (ltb largest_M W) refl
     where
-      go : (t : Bool) → ltb largest_M W ≡ t → IsEntry W (cond t None (Order (order_for W)))
+      go : (t : Bool) → ltb largest_M W ≡ t → IsEntry W (cond t None (Some (order_for W)))
       go true e = ltb-true largest_M W e
       go false e = let l = ltb-false largest_M W e in (l, entries o W p l)
 
@@ -101,8 +111,8 @@ module _ {table : List ℕ} (o : Orders table) where
 
   -- ---- a session that is advised the order n
 
-  module _ {s : Session} {n : ℕ} (r : Reached s) (a : advice s ≡ Order n) where
-    said : Says s (Order n)
+  module _ {s : Session} {n : ℕ} (r : Reached s) (a : advice s ≡ Ok (Some n)) where
+    said : Says s (Ok (Some n))
     said = subst (Says s) a (says r)
 
     held : Begun s
@@ -144,7 +154,7 @@ module _ {table : List ℕ} (o : Orders table) where
           let e : s.N + (n - s.N) ≡ n = omega arith in
           sym (add_taken s (n - s.N) (λ z. omega arith) (not_empty s held) (rw e (omega (arith, lies))) (rw e) (rw e))
 
-      pub adds_up : ((call (adds (n - s.N)) s).answer.refusal ≡ 0) × ((call (adds (n - s.N)) s).session.N ≡ n) × (advice (call (adds (n - s.N)) s).session ≡ Order n)
+      pub adds_up : ((call (adds (n - s.N)) s).answer.refusal ≡ 0) × ((call (adds (n - s.N)) s).session.N ≡ n) × (advice (call (adds (n - s.N)) s).session ≡ Ok (Some n))
       adds_up = (rw added refl, rw added (unfold state in refl), same (after r (adds (n - s.N))) r (rw added (unfold state in refl)) ∙ a)
 
   pub claims : Claims

@@ -1,6 +1,6 @@
 -- What a reader relies on beyond the contracts of this crate, request #106 of document 02: one record of statements, each proved. `orders` promises it, so
 -- the crate is taken only where all of it is proved.
-use Rattle.std.specs.Prelude.{◌≡◌, false, ℕ, ◌+◌, ◌-◌, ◌*◌, ◌^◌, ◌≤◌, ◌<◌}
+use Rattle.std.specs.Prelude.{◌≡◌, false, ℕ, ◌+◌, ◌-◌, ◌*◌, ◌^◌, ◌≤◌, ◌<◌, Some, Ok}
 use Rattle.exact.specs.Fraction.{Frac, ◌≼◌, ◌⊗◌, ◌↑◌, ◌over◌, whole}
 use Rattle.exact.specs.Scaled.{value}
 use Rattle.exact.specs.Steps.{sum_to, tail_bound}
@@ -8,7 +8,6 @@ use Rattle.encounter.specs.declared.state.Session.{Session}
 use Rattle.encounter.specs.Calls.{adds, reads, call, Reached}
 use Rattle.encounter.specs.Claims.{Readable}
 use Rattle.encounter.specs.Enclosure.{Encloses}
-use Rattle.advice.specs.declared.Advice.TheVariants.{Order}
 use Rattle.advice.specs.Orders.{largest_M, Enough, Least}
 use Rattle.advice.specs.Private.Order.{order_for}
 use Rattle.advice.specs.Advice.{taken_up, advice}
@@ -39,13 +38,13 @@ pub record Claims : Type 0 where
   -- no add changes the advice: it is the encounter's
   pub same : {s s' : Session} → Reached s → Reached s' → s.encounter ≡ s'.encounter → advice s ≡ advice s'
   -- an advised order is from 13 to 708
-  pub lies : {s : Session} {n : ℕ} → Reached s → advice s ≡ Order n → (13 ≤ n) × (n ≤ 708)
+  pub lies : {s : Session} {n : ℕ} → Reached s → advice s ≡ Ok (Some n) → (13 ≤ n) × (n ≤ 708)
   -- it is below the limit of an add: where terms are missing, an add of them is accepted and leads to it
   pub adds_up :
       {s : Session} {n : ℕ} →
       Reached s →
-      advice s ≡ Order n →
+      advice s ≡ Ok (Some n) →
       s.N < n →
-      ((call (adds (n - s.N)) s).answer.refusal ≡ 0) × ((call (adds (n - s.N)) s).session.N ≡ n) × (advice (call (adds (n - s.N)) s).session ≡ Order n)
+      ((call (adds (n - s.N)) s).answer.refusal ≡ 0) × ((call (adds (n - s.N)) s).session.N ≡ n) × (advice (call (adds (n - s.N)) s).session ≡ Ok (Some n))
   -- "a session at that order meets the condition under which the upper end is held close to the lower", and so does one at any later order
-  pub close : {s : Session} {n : ℕ} → Reached s → advice s ≡ Order n → n ≤ s.N → ReadsClose s
+  pub close : {s : Session} {n : ℕ} → Reached s → advice s ≡ Ok (Some n) → n ≤ s.N → ReadsClose s

@@ -3,42 +3,25 @@
 
 ghost use Rattle.std.specs.Prelude.{◌≡◌};
 ghost use Rattle.encounter.specs.Calls.{Reached};
-ghost use Rattle.advice.specs.Orders.{Orders};
 ghost use Rattle.advice.specs.Advice.{advice, Says};
-ghost use Rattle.advice.specs.Claims.{Claims};
 
 mod entry;
 mod table;
 
 use crate::entry::entry_for;
+pub use crate::table::orders;
 use encounter::state::Session;
+use exact::refusals::Refusal;
 
-#[derive(Clone, Copy)]
-pub enum Advice {
-    // The entry of the table for M taken up to a whole number.
-    Order(u16),
-    // M is above 256.
-    None,
-    // The refusal's number.
-    Refused(u32),
-}
-
-// The table of orders, one for each whole M from 1 to 256: the entry for M stands at M - 1.
-pub fn orders() -> [u16; 256]
-    ensures orders { Orders result }
-    ensures claims { Claims }
-{
-    table::orders()
-}
-
-// The advised order of the session's encounter; refused as 21 where none is begun. What holds at that order and later is in `Claims`, which `orders` promises.
-pub fn advise(s: Session) -> Advice
+// The advised order of the session's encounter: the entry of the table for M taken up to a whole number, or none where M is above 256. Refused as 21 where no
+// encounter is begun. What holds at that order and later is in `Claims`, which `orders` promises.
+#[tactic(auto, using(crate::proofs::Advising::advice_none, crate::proofs::Advising::advice_some_is, crate::proofs::Advising::says_entry))]
+pub fn advise(s: Session) -> Result<Option<u16>, Refusal>
     requires { Reached s }
     ensures { (result ≡ advice s) × Says s result }
 {
     if s.N == 0 {
-        return Advice::Refused(21);
+        return Err(Refusal::NotBegun);
     }
-    let M = s.M;
-    entry_for(M)
+    Ok(entry_for(s.M))
 }

@@ -1,10 +1,11 @@
 // The table of orders, and its entry for a whole M.
 ghost use Rattle.std.specs.Prelude.{◌≡◌, ◌≤◌};
 ghost use Rattle.advice.specs.Orders.{largest_M, Least, Orders};
+ghost use Rattle.advice.specs.Claims.{Claims};
 ghost use Rattle.advice.specs.Private.Order.{order_for as entry};
 
 // "one for each whole M from 1 to 256"
-pub const LARGEST_M: u32 = 256;
+pub const LARGEST_M: u64 = 256;
 
 // The entry for M stands at M - 1.
 const ORDERS: [u16; 256] = [
@@ -24,18 +25,18 @@ const ORDERS: [u16; 256] = [
     703, 706, 708,
 ];
 
-// The table.
+// The table of orders, one for each whole M from 1 to 256.
 pub fn orders() -> [u16; 256]
-    ensures { Orders result }
+    ensures orders { Orders result }
+    ensures claims { Claims }
 {
     ORDERS
 }
 
 // The entry for M.
-pub fn order_for(M: u32) -> u16
+pub fn order_for(M: u64) -> u16
     requires { (1 ≤ M) × (M ≤ largest_M) }
     ensures { (result ≡ entry M) × Least M result }
 {
-    let table = orders();
-    table[(M - 1) as usize]
+    orders()[(M - 1) as usize]
 }

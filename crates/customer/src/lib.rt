@@ -4,23 +4,25 @@
 #![tactic(auto)]
 
 ghost use Rattle.std.specs.Prelude.{◌≡◌};
-ghost use Rattle.encounter.specs.Session.{empty as empty_session};
+ghost use Rattle.encounter.specs.Session.{empty as empty_session, answer_of};
 ghost use Rattle.encounter.specs.Calls.{begins, begins_conjunction, adds, reads, call, Reached};
 ghost use Rattle.advice.specs.Advice.{advice};
 ghost use Rattle.host.specs.Plot.{plotted};
 ghost use Rattle.jinthuol.specs.Advice.{advice_numbers};
-ghost use Rattle.jinthuol.specs.Answer.{numbered, called};
+ghost use Rattle.jinthuol.specs.Answer.{numbered};
 ghost use Rattle.jinthuol.specs.Doubles.{plotted_numbers};
 ghost use Rattle.week.specs.Week.{empty_week, enter as entry, week_ends};
 
-use advice::{Advice, advise, orders};
-use division::{Divided, divide};
+use advice::{advise, orders};
+use division::divide;
 use encounter::decimals::to_decimal;
 use encounter::mantissas::over;
-use encounter::state::{Answer, Called, Session};
+use encounter::state::{Answer, Reading, Session};
 use encounter::{calls, sums};
+use exact::kinds::Kind;
+use exact::refusals::Refusal;
 use exact::{Conjunction, Decimal, Encounter, Scaled};
-use host::{Doubles, Plotted, read_doubles, read_plot_record};
+use host::{Doubles, PlotRecord, read_doubles, read_plot_record};
 use jinthuol::{
     Listing, jinthuol_add, jinthuol_advise, jinthuol_begin, jinthuol_begin_conjunction,
     jinthuol_divide, jinthuol_empty, jinthuol_empty_week, jinthuol_enter, jinthuol_read,
@@ -59,147 +61,118 @@ fn by_value(
     calls::begin_conjunction(s, C);
     calls::add(s, count);
     calls::read(s);
-    advise(s);
+    let _ = calls::reading(s);
+    let _ = advise(s);
     jinthuol_advise(s);
     take_record(s, script, at);
     put_lines(script, at, s, out)
 }
 
 // The calls of a plotting tool.
-fn for_a_host(C: Conjunction, E: Encounter, count: u16, script: &[u8], at: usize) -> Doubles {
+fn for_a_host(
+    C: Conjunction,
+    E: Encounter,
+    count: u16,
+    script: &[u8],
+    at: usize,
+) -> Result<Doubles, Refusal> {
     let session = used(C, E, count, script, at);
     jinthuol_read_doubles(session);
     jinthuol_read_plot_record(session);
-    read_plot_record(session);
+    let _ = read_plot_record(session);
     read_doubles(session)
 }
 
-// A session that the customer owns, lent for one call.
-fn begin_lent(s: Session, E: Encounter) -> Called
-    requires { Reached s }
-    ensures { (result ≡ call (begins E) s) × Reached result.session }
-{
-    let mut t = s;
-    let answer = t.begin(E);
-    Called { answer, session: t }
-}
-
-fn begin_conjunction_lent(s: Session, C: Conjunction) -> Called
-    requires { Reached s }
-    ensures { (result ≡ call (begins_conjunction C) s) × Reached result.session }
-{
-    let mut t = s;
-    let answer = t.begin_conjunction(C);
-    Called { answer, session: t }
-}
-
-fn add_lent(s: Session, count: u16) -> Called
-    requires { Reached s }
-    ensures { (result ≡ call (adds count) s) × Reached result.session }
-{
-    let mut t = s;
-    let answer = t.add(count);
-    Called { answer, session: t }
-}
-
-// What a read answers after a begin, a second begin with object and time, and an add.
+// What a read answers after a begin, a second begin with object and time, and an add. The session is lent for each.
 pub fn bracket(E: Encounter, C: Conjunction, count: u16) -> Answer
     ensures { result ≡ (call reads (call (adds count) (call (begins_conjunction C) (call (begins E) empty_session).session).session).session).answer }
 {
-    let first = begin_lent(Session::empty(), E);
-    let begun = begin_conjunction_lent(first.session, C);
-    let added = add_lent(begun.session, count);
-    calls::read(added.session)
+    let mut session = Session::empty();
+    session.begin(E);
+    session.begin_conjunction(C);
+    session.add(count);
+    calls::read(session)
+}
+
+// The same as a reading or its refusal.
+pub fn bracket_or_refusal(E: Encounter, C: Conjunction, count: u16) -> Result<Reading, Refusal>
+    ensures { answer_of result ≡ (call reads (call (adds count) (call (begins_conjunction C) (call (begins E) empty_session).session).session).session).answer }
+{
+    let mut session = Session::empty();
+    session.begin(E);
+    session.begin_conjunction(C);
+    session.add(count);
+    calls::reading(session)
 }
 
 // What a session is advised after a begin.
-pub fn advised_order(E: Encounter) -> Advice
+pub fn advised_order(E: Encounter) -> Result<Option<u16>, Refusal>
     ensures { result ≡ advice (call (begins E) empty_session).session }
 {
-    let begun = begin_lent(Session::empty(), E);
-    advise(begun.session)
+    let mut session = Session::empty();
+    session.begin(E);
+    advise(session)
 }
 
 // What the plotting tool stores after a begin with object and time, and an add.
-pub fn stored_record(C: Conjunction, count: u16) -> Plotted
+pub fn stored_record(C: Conjunction, count: u16) -> Result<Option<PlotRecord>, Refusal>
     ensures { result ≡ plotted (call (adds count) (call (begins_conjunction C) empty_session).session).session }
 {
-    let begun = begin_conjunction_lent(Session::empty(), C);
-    let added = add_lent(begun.session, count);
-    read_plot_record(added.session)
+    let mut session = Session::empty();
+    session.begin_conjunction(C);
+    session.add(count);
+    read_plot_record(session)
 }
 
 // The ends of a week with two entries of that session, on any days.
 pub fn figure(C: Conjunction, count: u16, first: u32, second: u32) -> Ends
     ensures { result ≡ (let s = (call (adds count) (call (begins_conjunction C) empty_session).session).session in week_ends (entry (entry empty_week first s).week second s).week) }
 {
-    let begun = begin_conjunction_lent(Session::empty(), C);
-    let added = add_lent(begun.session, count);
+    let mut session = Session::empty();
+    session.begin_conjunction(C);
+    session.add(count);
     let mut refusal: u32 = 0;
-    let once = enter(empty_week(), first, added.session, &mut refusal);
-    let twice = enter(once, second, added.session, &mut refusal);
+    let once = enter(empty_week(), first, session, &mut refusal);
+    let twice = enter(once, second, session, &mut refusal);
     week_ends(twice)
 }
 
 // The same from the exported calls.
-fn begin_exported(s: Session, E: Encounter) -> jinthuol::Called
-    requires { Reached s }
-    ensures { (result ≡ called (call (begins E) s)) × Reached result.session }
-{
-    let mut t = s;
-    let answer = jinthuol_begin(&mut t, E);
-    jinthuol::Called { answer, session: t }
-}
-
-fn begin_conjunction_exported(s: Session, C: Conjunction) -> jinthuol::Called
-    requires { Reached s }
-    ensures { (result ≡ called (call (begins_conjunction C) s)) × Reached result.session }
-{
-    let mut t = s;
-    let answer = jinthuol_begin_conjunction(&mut t, C);
-    jinthuol::Called { answer, session: t }
-}
-
-fn add_exported(s: Session, count: u16) -> jinthuol::Called
-    requires { Reached s }
-    ensures { (result ≡ called (call (adds count) s)) × Reached result.session }
-{
-    let mut t = s;
-    let answer = jinthuol_add(&mut t, count);
-    jinthuol::Called { answer, session: t }
-}
-
 pub fn bracket_exported(E: Encounter, C: Conjunction, count: u16) -> jinthuol::Answer
     ensures { result ≡ numbered (call reads (call (adds count) (call (begins_conjunction C) (call (begins E) empty_session).session).session).session).answer }
 {
-    let first = begin_exported(jinthuol_empty(), E);
-    let begun = begin_conjunction_exported(first.session, C);
-    let added = add_exported(begun.session, count);
-    jinthuol_read(added.session)
+    let mut session = jinthuol_empty();
+    jinthuol_begin(&mut session, E);
+    jinthuol_begin_conjunction(&mut session, C);
+    jinthuol_add(&mut session, count);
+    jinthuol_read(session)
 }
 
 pub fn advised_order_exported(E: Encounter) -> jinthuol::Advice
     ensures { result ≡ advice_numbers (advice (call (begins E) empty_session).session) }
 {
-    let begun = begin_exported(jinthuol_empty(), E);
-    jinthuol_advise(begun.session)
+    let mut session = jinthuol_empty();
+    jinthuol_begin(&mut session, E);
+    jinthuol_advise(session)
 }
 
 pub fn stored_record_exported(C: Conjunction, count: u16) -> jinthuol::Plotted
     ensures { result ≡ plotted_numbers (plotted (call (adds count) (call (begins_conjunction C) empty_session).session).session) }
 {
-    let begun = begin_conjunction_exported(jinthuol_empty(), C);
-    let added = add_exported(begun.session, count);
-    jinthuol_read_plot_record(added.session)
+    let mut session = jinthuol_empty();
+    jinthuol_begin_conjunction(&mut session, C);
+    jinthuol_add(&mut session, count);
+    jinthuol_read_plot_record(session)
 }
 
 pub fn figure_exported(C: Conjunction, count: u16, first: u32, second: u32) -> Ends
     ensures { result ≡ (let s = (call (adds count) (call (begins_conjunction C) empty_session).session).session in week_ends (entry (entry empty_week first s).week second s).week) }
 {
-    let begun = begin_conjunction_exported(jinthuol_empty(), C);
-    let added = add_exported(begun.session, count);
-    let once = jinthuol_enter(jinthuol_empty_week(), first, added.session);
-    let twice = jinthuol_enter(once.week, second, added.session);
+    let mut session = jinthuol_empty();
+    jinthuol_begin_conjunction(&mut session, C);
+    jinthuol_add(&mut session, count);
+    let once = jinthuol_enter(jinthuol_empty_week(), first, session);
+    let twice = jinthuol_enter(once.week, second, session);
     jinthuol_week_ends(twice.week)
 }
 
@@ -218,6 +191,18 @@ fn any_number(n: u32) -> Scaled {
 
 fn any_refusal(r: u32) -> Answer {
     Answer::refused(r)
+}
+
+fn its_number(refusal: Refusal) -> u32 {
+    u32::from(refusal)
+}
+
+fn any_answer(r: Result<Reading, Refusal>) -> Answer {
+    Answer::from(r)
+}
+
+fn any_body(kind: u8) -> Result<usize, Refusal> {
+    Ok(Kind::try_from(kind)?.body_length())
 }
 
 fn in_decimal(up: bool, x: Scaled) -> Decimal {
@@ -240,11 +225,11 @@ fn any_greater(x: Scaled, y: Scaled) -> Scaled {
     sums::greater(x, y)
 }
 
-fn any_quotient(up: bool, x: Scaled, k: u32) -> Divided {
+fn any_quotient(up: bool, x: Scaled, k: u32) -> Result<Scaled, Refusal> {
     divide(up, x, k)
 }
 
-fn any_quotient_exported(up: bool, x: Scaled, k: u32) -> Divided {
+fn any_quotient_exported(up: bool, x: Scaled, k: u32) -> jinthuol::Divided {
     jinthuol_divide(up, x, k)
 }
 

@@ -20,12 +20,12 @@ use Rattle.encounter.specs.Private.Held.{Begun}
 use Rattle.encounter.proofs.calls.AcceptedReads.{read_of}
 use Rattle.encounter.proofs.calls.Invariant.{begun, encloses}
 use Rattle.encounter.proofs.calls.ReadNumbers.{lower_end_fine, upper_end_fine}
-use Rattle.division.specs.Division.{divided}
+use Rattle.division.specs.Division.{divided, quotient_in}
 use Rattle.division.specs.Claims.{DividesEnds}
 use Rattle.division.proofs.Refusing.{in_range_passes}
 
 -- a quotient that is not refused is on its side of what the number is on that side of, divided
-divided_side : (up : Bool) (x : Scaled) (k : ℕ) (q : Frac) → refuses_10 x k ≡ false → OnSide up (value x) q → OnSide up (value (divided up x k).quotient) (q ÷ k)
+divided_side : (up : Bool) (x : Scaled) (k : ℕ) (q : Frac) → refuses_10 x k ≡ false → OnSide up (value x) q → OnSide up (value (quotient_in (divided up x k))) (q ÷ k)
 unfolding divided
 divided_side false x k q h l = rw h (≼_trans (round_is false 32 (value x ÷ k) (lit< tt)).side (div_mono k l))
 divided_side true x k q h l = rw h (≼_trans (div_mono k l) (round_is true 32 (value x ÷ k) (lit< tt)).side)

@@ -6,21 +6,24 @@ use Prim.Native.Nat.{ℕ, suc, pred, ◌^◌, ◌≤◌, ◌<◌}
 use native.Mathlib.Omega.{arith}
 use lib.Dec.{ltb, eqb}
 use lib.IntN.{ℤ, pos, negsuc, nat_abs}
-use lib.Signed.{lt_z}
+use lib.Signed.{mag, lt_z}
+use mir.Syntax.{w32}
+use mir.Val.{to_z, of_z}
 use borrow.Author.Tests.{eq-eqb, ne_eqb, eqb-true, eqb-false, lt-ltb, le-ltb, lt-leb, ltb-false, not-false}
 use Rattle.exact.specs.declared.Scaled.{Scaled}
 use Rattle.exact.specs.Integer.{neg_part}
 use Rattle.exact.specs.Numbers.{lowest_exponent}
-use Rattle.exact.specs.Scaled.{Normal, IsScaled}
+use Rattle.exact.specs.Scaled.{IsScaled}
 use Rattle.exact.specs.Private.Ranges.{InRange}
 use Rattle.exact.specs.Refusals.{scaled_form, refuses_10}
+use Rattle.exact.proofs.Signed.{back, zero_bits}
 use Rattle.exact.proofs.Fractions.{lt_or_le}
 use Rattle.exact.proofs.Accepted.{neither}
 use Rattle.exact.proofs.Form.{no_size, normal_form, form_of, form_is}
 
 -- ---- exponents
 
-pub low_is : (e : ℤ) → lt_z e (negsuc (pred lowest_exponent)) ≡ ltb lowest_exponent (neg_part e)
+low_is : (e : ℤ) → lt_z e (negsuc (pred lowest_exponent)) ≡ ltb lowest_exponent (neg_part e)
 low_is (pos n) = refl
 low_is (negsuc n) =
     ⊎_elim
@@ -36,21 +39,21 @@ module _ (x : Scaled) (k : ℕ) where
   by_zero z = rw (eq-eqb k 0 z)
 
   module _ (some : k ≡ 0 → ⊥) where
-    pub of_zero : x.m ≡ 0 → not (eqb (nat_abs x.e) 0) ≡ refuses_10 x k
+    pub of_zero : x.m ≡ 0 → mag x.e < 2 ^ 31 → not (eqb (of_z w32 x.e) 0) ≡ refuses_10 x k
     unfolding refuses_10 scaled_form
-    of_zero z = rw (ne_eqb k 0 some, eq-eqb x.m 0 z) (go (eqb (nat_abs x.e) 0) refl)
+    of_zero z f = rw (zero_bits x.e (record { sfits = f }), ne_eqb k 0 some, eq-eqb x.m 0 z) (go (eqb (nat_abs x.e) 0) refl)
       where
         go : (t : Bool) → eqb (nat_abs x.e) 0 ≡ t → not t ≡ (not t || ltb lowest_exponent (neg_part x.e))
         go true e = rw (no_size x.e (eqb-true (nat_abs x.e) 0 e))
         go false e = refl
 
-    pub of_small : (x.m ≡ 0 → ⊥) → x.m < 2 ^ 31 → true ≡ refuses_10 x k
+    pub of_small : (x.m ≡ 0 → ⊥) → x.m < 2 ^ 31 → ltb x.m (2 ^ 31) ≡ refuses_10 x k
     unfolding refuses_10 scaled_form
-    of_small n l = rw (ne_eqb k 0 some, ne_eqb x.m 0 n, lt-leb (2 ^ 31) x.m l)
+    of_small n l = rw (lt-ltb x.m (2 ^ 31) l, ne_eqb k 0 some, ne_eqb x.m 0 n, lt-leb (2 ^ 31) x.m l)
 
-    pub of_normal : Normal 32 x → ltb lowest_exponent (neg_part x.e) ≡ refuses_10 x k
+    pub of_normal : 2 ^ 31 ≤ x.m → x.m < 2 ^ 32 → mag x.e < 2 ^ 31 → lt_z (to_z w32 (of_z w32 x.e)) (negsuc (pred lowest_exponent)) ≡ refuses_10 x k
     unfolding refuses_10
-    of_normal n = rw (ne_eqb k 0 some, normal_form x n)
+    of_normal low high f = rw (back x.e f, low_is x.e, ne_eqb k 0 some, normal_form x (record { low = omega (arith, low); high = high }))
 
 -- what passes
 pub record Passed (x : Scaled) (k : ℕ) : Type 0 where

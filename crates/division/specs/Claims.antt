@@ -11,7 +11,7 @@ use Rattle.exact.specs.Refusals.{Accepted, scaled_form, refuses_10}
 use Rattle.encounter.specs.declared.state.Session.{Session}
 use Rattle.encounter.specs.Calls.{reads, call}
 use Rattle.encounter.specs.Claims.{Readable}
-use Rattle.division.specs.Division.{divided}
+use Rattle.division.specs.Division.{divided, quotient_in}
 use Rattle.division.specs.Tested.{passed, passed_terms, passed_powers, tested_terms, tested_powers, tested_d}
 
 -- "Our own steps are to be shown never to meet it": put to test 10, they are the steps' own numbers, and no division on the way of any is refused
@@ -32,7 +32,7 @@ pub record DividesEnds (s : Session) (divisor : ℕ) : Type 0 where
       (N' K : ℕ) →
       s.N ≤ N' →
       exponential_cut ≤ K →
-      (value (divided false (call reads s).answer.lower divisor).quotient ≼ quotient s.encounter N' K ÷ divisor) × (quotient s.encounter N' K ÷ divisor ≼ value (divided true (call reads s).answer.upper divisor).quotient)
+      (value (quotient_in (divided false (call reads s).answer.lower divisor)) ≼ quotient s.encounter N' K ÷ divisor) × (quotient s.encounter N' K ÷ divisor ≼ value (quotient_in (divided true (call reads s).answer.upper divisor)))
 
 pub record Claims : Type 0 where
   -- the test of the form is document 01's form

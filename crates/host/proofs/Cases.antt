@@ -7,11 +7,14 @@ use native.Mathlib.Nat.{mul-le-mul_left}
 use native.Mathlib.Omega.{arith}
 use lib.IntN.{ℤ, pos, negsuc}
 use lib.Pow.{pow_pos, pow_mono}
-use lib.Signed.{lt_z}
+use lib.Signed.{mag, lt_z}
+use mir.Syntax.{w32}
+use mir.Val.{to_z, of_z}
 use borrow.Author.Tests.{lt-ltb, le-ltb, le-leb, lt-leb}
 use Rattle.exact.specs.declared.Scaled.{Scaled}
 use Rattle.exact.specs.Fraction.{whole, at_most}
 use Rattle.exact.specs.Scaled.{scaled, value, IsScaled}
+use Rattle.exact.proofs.Signed.{back}
 use Rattle.exact.proofs.Operations.{normal, none}
 use Rattle.exact.proofs.Fractions.{lt_or_le}
 
@@ -28,5 +31,5 @@ by_exponent m (negsuc n) l h =
     (λ b. le-ltb n 31 b ∙ sym (lt-leb (1 * 2 ^ suc n) (m * 1 * 1) (omega (arith, pow_mono {i = 32} {j = suc n} (omega arith)))))
     (lt_or_le n 31)
 
-pub one_or_more : (x : Scaled) → IsScaled 32 x → (x.m ≡ 0 → ⊥) → lt_z (negsuc 31) x.e ≡ at_most (whole 1) (value x)
-one_or_more x s some = let n = normal s some in by_exponent x.m x.e n.low n.high
+pub one_or_more : (x : Scaled) → IsScaled 32 x → (x.m ≡ 0 → ⊥) → mag x.e < 2 ^ 31 → lt_z (negsuc 31) (to_z w32 (of_z w32 x.e)) ≡ at_most (whole 1) (value x)
+one_or_more x s some f = let n = normal s some in rw (back x.e f) (by_exponent x.m x.e n.low n.high)

@@ -80,16 +80,18 @@ upper_form E N = rounded true _
 below_1 : (p : Frac) → at_most (whole 1) p ≡ false → p ≼ whole (2 ^ most_bits)
 below_1 p h = ≼_trans (≼_of_≺ (above_holds (whole 1) p (unfold above in rw h))) (whole_mono (pow_pos most_bits))
 
-of_bracket : {s : Session} → ReadOf s → EndsFit (bracket (conjunction_of s) s.N)
+of_bracket : {s : Session} → ReadOf s → EndsFit (bracket (conjunction_of s) s.N).lower (bracket (conjunction_of s) s.N).upper
 unfolding bracket
 of_bracket {s} f =
     let E = s.encounter in
     let N = s.N in
     record {
-      lower = in_range (lower_end E N) (lower_form E N) (lower_end_least f.fine N) (lower_end_most f.fine N f.low f.passes);
+      lower_fits = in_range (lower_end E N) (lower_form E N) (lower_end_least f.fine N) (lower_end_most f.fine N f.low f.passes);
       upper_form = upper_form E N;
-      upper = λ h. in_range (upper_end E N) (upper_form E N) (upper_end_least f.fine N f.low f.passes) (below_1 _ h);
+      upper_fits = λ h. in_range (upper_end E N) (upper_form E N) (upper_end_least f.fine N f.low f.passes) (below_1 _ h);
     }
 
-pub ends_fit : {s : Session} → Reached s → EndsFit (call reads s).answer
-ends_fit r = by_read EndsFit r of_bracket (λ n _. record { lower = nought_range 32 double_range; upper_form = inl refl; upper = λ _. nought_range 32 double_range })
+pub ends_fit : {s : Session} → Reached s → EndsFit (call reads s).answer.lower (call reads s).answer.upper
+ends_fit r =
+    by_read (λ a. EndsFit a.lower a.upper) r of_bracket
+    (λ _. record { lower_fits = nought_range 32 double_range; upper_form = inl refl; upper_fits = λ _. nought_range 32 double_range })

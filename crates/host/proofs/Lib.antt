@@ -2,6 +2,7 @@ pub mod Shifted
 pub mod Pattern
 pub mod Exactly
 pub mod Cases
+pub mod Numbers
 pub mod ReadCases
 pub mod Fitting
 pub mod Answering

@@ -1,5 +1,7 @@
 -- Request #108 of document 02, 'Doubles for the host': what the host is answered of a session.
-use Rattle.std.specs.Prelude.{◌≡◌, true, false, cond, ℕ, ◌<◌, eqb, Float}
+use Rattle.std.specs.Prelude.{◌≡◌, true, false, cond, ℕ, ◌<◌, eqb, Float, Result, Ok, Err}
+use Rattle.exact.specs.declared.refusals.Refusal.{Refusal}
+use Rattle.exact.specs.Kinds.{number_of}
 use Rattle.std.specs.Float.{binary64}
 use Rattle.std.specs.Float.Ieee.{round}
 use Rattle.std.specs.Float.Ieee.Exact.{HasValue}
@@ -10,7 +12,8 @@ use Rattle.encounter.specs.declared.state.Session.{Session}
 use Rattle.encounter.specs.declared.state.Answer.{Answer}
 use Rattle.encounter.specs.Calls.{reads, call}
 use Rattle.host.specs.declared.Doubles.{Doubles}
-use Rattle.host.specs.declared.Doubles.TheVariants.{Both, Unbounded, Refused}
+use Rattle.host.specs.declared.Doubles.TheVariants.{Both, Unbounded}
+use Rattle.host.specs.Refusals.{refusal_of}
 
 -- the double d is finite, not negative, and exactly q
 abbrev pub Worth : Float → Frac → Type 0
@@ -21,14 +24,14 @@ unfoldable pub as_double : Scaled → Float
 as_double x = round binary64 false (value x).num (value x).den
 
 -- "Answer either both ends or, where the upper end is 1 or more, `unbounded` with the lower end alone." "[It] refuses as a read does, with no double in the answer."
-unfoldable pub in_doubles : Answer → Doubles
+unfoldable pub in_doubles : Answer → Result Doubles Refusal
 in_doubles a =
     cond (eqb a.refusal 0)
-    (cond (at_most (whole 1) (value a.upper)) (Unbounded (as_double a.lower)) (Both (as_double a.lower) (as_double a.upper)))
-    (Refused a.refusal)
+    (Ok (cond (at_most (whole 1) (value a.upper)) (Unbounded (as_double a.lower)) (Both (as_double a.lower) (as_double a.upper))))
+    (Err (refusal_of a.refusal))
 
 -- "The host call works on a session"
-unfoldable pub doubles : Session → Doubles
+unfoldable pub doubles : Session → Result Doubles Refusal
 doubles s = in_doubles (call reads s).answer
 
 -- ---- what each case says of the read's answer
@@ -48,7 +51,7 @@ pub record NoEnd (a : Answer) (r : ℕ) : Type 0 where
   pub number : a.refusal ≡ r
   pub some : 0 < r
 
-abbrev pub Says : Answer → Doubles → Type 0
-Says a (Both lower upper) = BothEnds a lower upper
-Says a (Unbounded lower) = LowerEnd a lower
-Says a (Refused r) = NoEnd a r
+abbrev pub Says : Answer → Result Doubles Refusal → Type 0
+Says a (Ok (Both lower upper)) = BothEnds a lower upper
+Says a (Ok (Unbounded lower)) = LowerEnd a lower
+Says a (Err e) = NoEnd a (number_of e)

@@ -1,4 +1,5 @@
 pub mod Private
+pub mod Refusals
 pub mod Doubles
 pub mod Plot
 pub mod Lists

@@ -1,5 +1,6 @@
 -- Request #108 of document 02 in document 01's 'The enclosure over a whole list': "one that answers a session's two ends counts as a read."
-use Rattle.std.specs.Prelude.{◌≡◌, List, [], ◌∷◌}
+use Rattle.std.specs.Prelude.{◌≡◌, List, [], ◌∷◌, Option, Result}
+use Rattle.exact.specs.declared.refusals.Refusal.{Refusal}
 use Rattle.exact.specs.Records.{read}
 use Rattle.exact.specs.Refusals.{History, no_encounter}
 use Rattle.encounter.specs.declared.state.Session.{Session}
@@ -8,7 +9,7 @@ use Rattle.encounter.specs.Session.{empty}
 use Rattle.encounter.specs.Calls.{follow, Call, reads, asked, call}
 use Rattle.encounter.specs.Enclosure.{Place, place, Claim, Every}
 use Rattle.host.specs.declared.Doubles.{Doubles}
-use Rattle.host.specs.declared.Plotted.{Plotted}
+use Rattle.host.specs.declared.PlotRecord.{PlotRecord}
 use Rattle.host.specs.Doubles.{doubles, Says}
 use Rattle.host.specs.Plot.{plotted, Stores}
 
@@ -27,8 +28,8 @@ counts_as reads_plot_record = reads
 -- what each is answered, in its own form
 pub data Reply : Type 0 where
   as_answer : Answer → Reply
-  as_doubles : Doubles → Reply
-  as_record : Plotted → Reply
+  as_doubles : Result Doubles Refusal → Reply
+  as_record : Result (Option PlotRecord) Refusal → Reply
 
 abbrev pub reply : HostCall → Session → Reply
 reply (library c) s = as_answer (call c s).answer

@@ -18,6 +18,7 @@ fn field(e: i32) -> u32
 }
 
 // The double that is x: the field in its place, from bit 52 on, and m from bit 21 on. m's highest bit is bit 52, so it adds one to the field.
+#[tactic(auto, using(crate::proofs::Exactly::zero_assembled, crate::proofs::Exactly::field_small, crate::proofs::Exactly::is_double, crate::proofs::Exactly::is_number, exact::proofs::Operations::none))]
 pub fn double_of(x: Scaled) -> f64
     requires { InRange 32 double_range x }
     ensures { result ≡ as_double x }
@@ -25,8 +26,8 @@ pub fn double_of(x: Scaled) -> f64
     if x.m == 0 {
         return 0.0;
     }
-    let k = field(x.e) as u64;
-    let q = (x.m as u64) * 2097152;
+    let k = u64::from(field(x.e));
+    let q = u64::from(x.m) * 2097152;
     f64::from_bits(k * 4503599627370496 + q)
 }
 

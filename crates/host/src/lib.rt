@@ -1,7 +1,8 @@
 // Request #108 of document 02: both ends of a read as doubles, and the record that the plotting tool stores.
 #![tactic(auto)]
 
-ghost use Rattle.std.specs.Prelude.{◌≡◌};
+ghost use Rattle.std.specs.Prelude.{◌≡◌, Ok};
+ghost use Rattle.encounter.specs.Session.{answer_of};
 ghost use Rattle.encounter.specs.Calls.{reads, call, Reached};
 ghost use Rattle.host.specs.Doubles.{in_doubles, doubles, Says};
 ghost use Rattle.host.specs.Plot.{in_record, plotted, Stores};
@@ -11,8 +12,9 @@ ghost use Rattle.host.specs.Private.Fitting.{EndsFit};
 mod double;
 
 use crate::double::{double_of, one_or_more};
-use encounter::calls::read;
-use encounter::state::{Answer, Session};
+use encounter::calls::reading;
+use encounter::state::{Reading, Session};
+use exact::refusals::Refusal;
 
 #[derive(Clone, Copy)]
 pub enum Doubles {
@@ -20,13 +22,11 @@ pub enum Doubles {
     Both(f64, f64),
     // The lower end, where the upper end is 1 or more.
     Unbounded(f64),
-    // The refusal's number.
-    Refused(u32),
 }
 
 // The object number, both ends and their difference.
 #[repr(C)]
-#[derive(Clone, Copy)]
+#[derive(Clone, Copy, Default)]
 pub struct PlotRecord {
     pub object: u32,
     pub lower: f64,
@@ -34,63 +34,51 @@ pub struct PlotRecord {
     pub difference: f64,
 }
 
-#[derive(Clone, Copy)]
-pub enum Plotted {
-    // The record, where the upper end is below 1.
-    Record(PlotRecord),
-    // No record, where the upper end is 1 or more.
-    Unbounded,
-    // The refusal's number.
-    Refused(u32),
-}
-
-// The ends of an answer.
-fn ends_of(a: Answer) -> Doubles
-    requires { EndsFit a }
-    ensures { result ≡ in_doubles a }
+// The ends of a read.
+#[tactic(auto, using(crate::proofs::Answering::unbounded, crate::proofs::Answering::both, crate::proofs::Answering::upper_in))]
+fn ends_of(r: Reading) -> Doubles
+    requires { EndsFit r.lower r.upper }
+    ensures { Ok result ≡ in_doubles (answer_of (Ok r)) }
 {
-    if a.refusal != 0 {
-        return Doubles::Refused(a.refusal);
-    }
-    let lower = double_of(a.lower);
-    if one_or_more(a.upper) {
+    let lower = double_of(r.lower);
+    if one_or_more(r.upper) {
         return Doubles::Unbounded(lower);
     }
-    let upper = double_of(a.upper);
+    let upper = double_of(r.upper);
     Doubles::Both(lower, upper)
 }
 
 // The record of two ends.
-fn record_of(object: u32, d: Doubles) -> Plotted
-    ensures { result ≡ in_record object d }
+#[tactic(auto, unfolding(crate::specs::Plot::in_record))]
+fn record_of(object: u32, d: Doubles) -> Option<PlotRecord>
+    ensures { Ok result ≡ in_record object (Ok d) }
 {
     match d {
-        Doubles::Both(lower, upper) => Plotted::Record(PlotRecord {
+        Doubles::Both(lower, upper) => Some(PlotRecord {
             object,
             lower,
             upper,
             difference: upper - lower,
         }),
-        Doubles::Unbounded(_) => Plotted::Unbounded,
-        Doubles::Refused(r) => Plotted::Refused(r),
+        Doubles::Unbounded(_) => None,
     }
 }
 
 // Both ends at the session's order, or the lower end alone where the upper end is 1 or more. Refused as 21 or 23.
-pub fn read_doubles(s: Session) -> Doubles
+#[tactic(auto, using(crate::proofs::Listed::host_demands))]
+pub fn read_doubles(s: Session) -> Result<Doubles, Refusal>
     requires { Reached s }
     ensures value { (result ≡ doubles s) × Says (call reads s).answer result }
     ensures demands { HostDemands }
 {
-    ends_of(read(s))
+    Ok(ends_of(reading(s)?))
 }
 
-// The record at the session's order, where the upper end is below 1. Refused as 21 or 23.
-pub fn read_plot_record(s: Session) -> Plotted
+// The record at the session's order, or none where the upper end is 1 or more. Refused as 21 or 23.
+pub fn read_plot_record(s: Session) -> Result<Option<PlotRecord>, Refusal>
     requires { Reached s }
     ensures { (result ≡ plotted s) × Stores (call reads s).answer result }
 {
-    let a = read(s);
-    let object = a.object;
-    record_of(object, ends_of(a))
+    let r = reading(s)?;
+    Ok(record_of(r.object, ends_of(r)))
 }

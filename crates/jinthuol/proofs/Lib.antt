@@ -1,4 +1,2 @@
-pub mod Advising
-pub mod Answering
 pub mod Telling
 pub mod Running

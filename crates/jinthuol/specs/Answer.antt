@@ -3,9 +3,7 @@ use Rattle.std.specs.Prelude.{ℕ}
 use Rattle.encounter.specs.declared.state.Answer.{Answer as WithClass}
 use Rattle.encounter.specs.declared.state.Class.{Class}
 use Rattle.encounter.specs.declared.state.Class.TheVariants.{Clear, Alert, Open}
-use Rattle.encounter.specs.declared.state.Called.{Called as CalledWithClass}
 use Rattle.jinthuol.specs.declared.Answer.{Answer}
-use Rattle.jinthuol.specs.declared.Called.{Called}
 
 -- the number of a class: 0 clear, 1 alert, 2 open
 unfoldable pub class_number : Class → ℕ
@@ -16,7 +14,3 @@ class_number Open = 2
 -- the answer, with its class as a number
 unfoldable pub numbered : WithClass → Answer
 numbered a = record { refusal = a.refusal; N = a.N; lower = a.lower; upper = a.upper; class = class_number a.class; object = a.object; time = a.time; exact = a.exact }
-
--- a call's answer so, and the session after it
-unfoldable pub called : CalledWithClass → Called
-called c = record { answer = numbered c.answer; session = c.session }

@@ -1,8 +1,9 @@
 // Ends as doubles, and the record that the plotting tool stores, with their cases as numbers (request #108).
 ghost use Rattle.std.specs.Prelude.{◌≡◌};
-ghost use Rattle.jinthuol.specs.Doubles.{doubles_numbers, no_record, plotted_numbers};
+ghost use Rattle.jinthuol.specs.Doubles.{doubles_numbers, plotted_numbers};
 
 use crate::{Doubles, Plotted};
+use exact::refusals::Refusal;
 use host;
 use host::PlotRecord;
 
@@ -13,56 +14,35 @@ const UNBOUNDED: u32 = 1;
 
 const BOTH: u32 = 2;
 
-pub fn doubles_of(d: host::Doubles) -> Doubles
-    ensures { result ≡ doubles_numbers d }
-{
-    match d {
-        host::Doubles::Both(lower, upper) => Doubles {
-            refusal: 0,
-            tag: BOTH,
+impl From<Result<host::Doubles, Refusal>> for Doubles {
+    ghost from_gives = { λ d r. r ≡ doubles_numbers d };
+
+    #[tactic(auto, unfolding(crate::specs::Doubles::doubles_numbers), using(crate::proofs::Telling::zero_is))]
+    fn from(d: Result<host::Doubles, Refusal>) -> Doubles {
+        let (refusal, tag, lower, upper) = match d {
+            Ok(host::Doubles::Both(lower, upper)) => (0, BOTH, lower, upper),
+            Ok(host::Doubles::Unbounded(lower)) => (0, UNBOUNDED, lower, 0.0),
+            Err(refusal) => (u32::from(refusal), REFUSED, 0.0, 0.0),
+        };
+        Doubles {
+            refusal,
+            tag,
             lower,
             upper,
-        },
-        host::Doubles::Unbounded(lower) => Doubles {
-            refusal: 0,
-            tag: UNBOUNDED,
-            lower,
-            upper: 0.0,
-        },
-        host::Doubles::Refused(r) => Doubles {
-            refusal: r,
-            tag: REFUSED,
-            lower: 0.0,
-            upper: 0.0,
-        },
+        }
     }
 }
 
-fn no_record(refusal: u32, tag: u32) -> Plotted
-    ensures { result ≡ no_record refusal tag }
-{
-    Plotted {
-        refusal,
-        tag,
-        plot: PlotRecord {
-            object: 0,
-            lower: 0.0,
-            upper: 0.0,
-            difference: 0.0,
-        },
-    }
-}
+impl From<Result<Option<PlotRecord>, Refusal>> for Plotted {
+    ghost from_gives = { λ p r. r ≡ plotted_numbers p };
 
-pub fn plotted_of(p: host::Plotted) -> Plotted
-    ensures { result ≡ plotted_numbers p }
-{
-    match p {
-        host::Plotted::Record(plot) => Plotted {
-            refusal: 0,
-            tag: BOTH,
-            plot,
-        },
-        host::Plotted::Unbounded => no_record(0, UNBOUNDED),
-        host::Plotted::Refused(r) => no_record(r, REFUSED),
+    #[tactic(auto, unfolding(crate::specs::Doubles::plotted_numbers), using(crate::proofs::Telling::zero_is))]
+    fn from(p: Result<Option<PlotRecord>, Refusal>) -> Plotted {
+        let (refusal, tag, plot) = match p {
+            Ok(Some(plot)) => (0, BOTH, plot),
+            Ok(None) => (0, UNBOUNDED, PlotRecord::default()),
+            Err(refusal) => (u32::from(refusal), REFUSED, PlotRecord::default()),
+        };
+        Plotted { refusal, tag, plot }
     }
 }

@@ -11,7 +11,8 @@ ghost use Rattle.division.specs.Division.{divided, Says};
 ghost use Rattle.host.specs.Doubles.{doubles as host_doubles, Says as DoublesSay};
 ghost use Rattle.host.specs.Plot.{plotted as host_plotted, Stores};
 ghost use Rattle.jinthuol.specs.Advice.{advice_numbers, told};
-ghost use Rattle.jinthuol.specs.Answer.{class_number, numbered, called};
+ghost use Rattle.jinthuol.specs.Answer.{class_number, numbered};
+ghost use Rattle.jinthuol.specs.Division.{divided_numbers, divided_told};
 ghost use Rattle.jinthuol.specs.Doubles.{doubles_numbers, doubles_told, plotted_numbers, plotted_told};
 ghost use Rattle.jinthuol.specs.Run.{RunOf};
 ghost use Rattle.jinthuol.specs.Version.{version};
@@ -22,13 +23,13 @@ ghost use Rattle.week.specs.Told.{FromCalls};
 mod ends;
 mod weeks;
 
-use crate::ends::{doubles_of, plotted_of};
 use crate::weeks::{arrays_of, days_in};
-use advice;
-use division::{Divided, divide};
+use advice::advise;
+use division::divide;
 use encounter::decimals::to_decimal;
 use encounter::state::{Class, Session};
 use encounter::{calls, state};
+use exact::refusals::Refusal;
 use exact::{Conjunction, DAYS_A_WEEK, Decimal, Encounter, LARGEST_SCRIPT, PLACES_A_DAY, Scaled};
 use host::{PlotRecord, read_doubles, read_plot_record};
 use listing::script::{put_lines, put_too_long};
@@ -100,11 +101,12 @@ pub struct Entered {
     pub week: Week,
 }
 
-// The answer of a call, and the session after it.
+// The refusal's number, or 0; then the quotient, which is zero where it is refused.
+#[repr(C)]
 #[derive(Clone, Copy)]
-pub struct Called {
-    pub answer: Answer,
-    pub session: Session,
+pub struct Divided {
+    pub refusal: u32,
+    pub quotient: Scaled,
 }
 
 // The bytes of the buffer that are used, and whether they are the whole listing.
@@ -115,6 +117,8 @@ pub struct Listing {
     pub ended: bool,
 }
 
+// The number of a class. No `From`: Rust has none in a crate that has neither of the two types.
+#[tactic(auto, unfolding(crate::specs::Answer::class_number))]
 fn number(c: Class) -> u32
     ensures { result ≡ class_number c }
 {
@@ -125,71 +129,49 @@ fn number(c: Class) -> u32
     }
 }
 
-fn answer_of(a: state::Answer) -> Answer
-    ensures { result ≡ numbered a }
-{
-    let lower = a.lower;
-    let upper = a.upper;
-    let class = a.class;
-    Answer {
-        refusal: a.refusal,
-        N: a.N,
-        lower,
-        upper,
-        class: number(class),
-        object: a.object,
-        time: a.time,
-        exact: a.exact,
+impl From<state::Answer> for Answer {
+    ghost from_gives = { λ a r. r ≡ numbered a };
+
+    #[tactic(auto, unfolding(crate::specs::Answer::numbered))]
+    fn from(a: state::Answer) -> Answer {
+        Answer {
+            refusal: a.refusal,
+            N: a.N,
+            lower: a.lower,
+            upper: a.upper,
+            class: number(a.class),
+            object: a.object,
+            time: a.time,
+            exact: a.exact,
+        }
     }
 }
 
-fn advice_of(a: advice::Advice) -> Advice
-    ensures { result ≡ advice_numbers a }
-{
-    match a {
-        advice::Advice::Order(N) => Advice {
-            refusal: 0,
-            order: N as u32,
-        },
-        advice::Advice::None => Advice {
-            refusal: 0,
-            order: 0,
-        },
-        advice::Advice::Refused(r) => Advice {
-            refusal: r,
-            order: 0,
-        },
+impl From<Result<Option<u16>, Refusal>> for Advice {
+    ghost from_gives = { λ a r. r ≡ advice_numbers a };
+
+    #[tactic(auto, unfolding(crate::specs::Advice::advice_numbers))]
+    fn from(a: Result<Option<u16>, Refusal>) -> Advice {
+        let (refusal, order) = match a {
+            Ok(Some(N)) => (0, u32::from(N)),
+            Ok(None) => (0, 0),
+            Err(refusal) => (u32::from(refusal), 0),
+        };
+        Advice { refusal, order }
     }
 }
 
-fn called_of(c: state::Called) -> Called
-    ensures { result ≡ called c }
-{
-    let answer = c.answer;
-    let answer = answer_of(answer);
-    let session = c.session;
-    Called { answer, session }
-}
+impl From<Result<Scaled, Refusal>> for Divided {
+    ghost from_gives = { λ d r. r ≡ divided_numbers d };
 
-fn begun(s: Session, E: Encounter) -> Called
-    requires { Reached s }
-    ensures { (result ≡ called (call (begins E) s)) × Reached result.session }
-{
-    called_of(calls::begin(s, E))
-}
-
-fn begun_conjunction(s: Session, C: Conjunction) -> Called
-    requires { Reached s }
-    ensures { (result ≡ called (call (begins_conjunction C) s)) × Reached result.session }
-{
-    called_of(calls::begin_conjunction(s, C))
-}
-
-fn added(s: Session, count: u16) -> Called
-    requires { Reached s }
-    ensures { (result ≡ called (call (adds count) s)) × Reached result.session }
-{
-    called_of(calls::add(s, count))
+    #[tactic(auto, unfolding(crate::specs::Division::divided_numbers))]
+    fn from(d: Result<Scaled, Refusal>) -> Divided {
+        let (refusal, quotient) = match d {
+            Ok(quotient) => (0, quotient),
+            Err(refusal) => (u32::from(refusal), Scaled::ZERO),
+        };
+        Divided { refusal, quotient }
+    }
 }
 
 pub fn jinthuol_version() -> u32
@@ -209,37 +191,28 @@ pub fn jinthuol_begin(session: &mut Session, encounter: Encounter) -> Answer
     requires { Reached session.old }
     ensures { (result ≡ numbered (call (begins encounter) session.old).answer) × (session.new ≡ (call (begins encounter) session.old).session) × Reached session.new }
 {
-    let before = *session;
-    let r = begun(before, encounter);
-    *session = r.session;
-    r.answer
+    Answer::from(session.begin(encounter))
 }
 
 pub fn jinthuol_begin_conjunction(session: &mut Session, conjunction: Conjunction) -> Answer
     requires { Reached session.old }
     ensures { (result ≡ numbered (call (begins_conjunction conjunction) session.old).answer) × (session.new ≡ (call (begins_conjunction conjunction) session.old).session) × Reached session.new }
 {
-    let before = *session;
-    let r = begun_conjunction(before, conjunction);
-    *session = r.session;
-    r.answer
+    Answer::from(session.begin_conjunction(conjunction))
 }
 
 pub fn jinthuol_add(session: &mut Session, count: u16) -> Answer
     requires { Reached session.old }
     ensures { (result ≡ numbered (call (adds count) session.old).answer) × (session.new ≡ (call (adds count) session.old).session) × Reached session.new }
 {
-    let before = *session;
-    let r = added(before, count);
-    *session = r.session;
-    r.answer
+    Answer::from(session.add(count))
 }
 
 pub fn jinthuol_read(session: Session) -> Answer
     requires { Reached session }
     ensures { result ≡ numbered (call reads session).answer }
 {
-    answer_of(calls::read(session))
+    Answer::from(calls::read(session))
 }
 
 // The advised order of the session's encounter.
@@ -247,7 +220,7 @@ pub fn jinthuol_advise(session: Session) -> Advice
     requires { Reached session }
     ensures { (result ≡ advice_numbers (advised session)) × (told result ≡ advised session) }
 {
-    advice_of(advice::advise(session))
+    Advice::from(advise(session))
 }
 
 // Both ends as doubles, or the lower end alone where the upper end is 1 or more.
@@ -255,7 +228,7 @@ pub fn jinthuol_read_doubles(session: Session) -> Doubles
     requires { Reached session }
     ensures { (result ≡ doubles_numbers (host_doubles session)) × (doubles_told result ≡ host_doubles session) × DoublesSay (call reads session).answer (doubles_told result) }
 {
-    doubles_of(read_doubles(session))
+    Doubles::from(read_doubles(session))
 }
 
 // The record that the plotting tool stores, where both ends are there.
@@ -263,7 +236,7 @@ pub fn jinthuol_read_plot_record(session: Session) -> Plotted
     requires { Reached session }
     ensures { (result ≡ plotted_numbers (host_plotted session)) × (plotted_told result ≡ host_plotted session) × Stores (call reads session).answer (plotted_told result) }
 {
-    plotted_of(read_plot_record(session))
+    Plotted::from(read_plot_record(session))
 }
 
 // A week with nothing in it.
@@ -301,9 +274,9 @@ pub fn jinthuol_to_decimal(up: bool, number: Scaled) -> Decimal
 
 // A number divided by a whole number: rounded down or, where up is true, up.
 pub fn jinthuol_divide(up: bool, number: Scaled, divisor: u32) -> Divided
-    ensures { (result ≡ divided up number divisor) × Says up number divisor result }
+    ensures { (result ≡ divided_numbers (divided up number divisor)) × (divided_told result ≡ divided up number divisor) × Says up number divisor (divided_told result) }
 {
-    divide(up, number, divisor)
+    Divided::from(divide(up, number, divisor))
 }
 
 // The listing of a script, as far as the buffer has room for it.

@@ -11,6 +11,7 @@ ghost use Rattle.host.specs.Doubles.{doubles as host_doubles, Says as DoublesSay
 ghost use Rattle.host.specs.Plot.{plotted as host_plotted, Stores};
 ghost use Rattle.jinthuol.specs.Advice.{advice_numbers, told};
 ghost use Rattle.jinthuol.specs.Answer.{numbered};
+ghost use Rattle.jinthuol.specs.Division.{divided_numbers, divided_told};
 ghost use Rattle.jinthuol.specs.Doubles.{doubles_numbers, doubles_told, plotted_numbers, plotted_told};
 ghost use Rattle.jinthuol.specs.Run.{RunOf};
 ghost use Rattle.jinthuol.specs.Version.{version};
@@ -18,10 +19,9 @@ ghost use Rattle.jinthuol.specs.Week.{days_of, in_days, entered_as};
 ghost use Rattle.week.specs.Week.{empty_week, enter as week_entry, week_ends as ends_of_week};
 ghost use Rattle.week.specs.Told.{FromCalls};
 
-use division::Divided;
 use encounter::state::Session;
 use exact::{Conjunction, Decimal, Encounter, Scaled};
-use jinthuol::{Advice, Answer, Doubles, Entered, Listing, Plotted, Week};
+use jinthuol::{Advice, Answer, Divided, Doubles, Entered, Listing, Plotted, Week};
 use week::Ends;
 
 #[unsafe(no_mangle)]
@@ -138,7 +138,7 @@ pub extern "C" fn jinthuol_to_decimal(up: bool, number: Scaled) -> Decimal
 // A number divided by a whole number: rounded down or, where up is true, up.
 #[unsafe(no_mangle)]
 pub extern "C" fn jinthuol_divide(up: bool, number: Scaled, divisor: u32) -> Divided
-    ensures { (result ≡ divided up number divisor) × Says up number divisor result }
+    ensures { (result ≡ divided_numbers (divided up number divisor)) × (divided_told result ≡ divided up number divisor) × Says up number divisor (divided_told result) }
 {
     jinthuol::jinthuol_divide(up, number, divisor)
 }

@@ -1,10 +1,8 @@
 -- The entry of the table of orders, computed.
-use Rattle.std.specs.Prelude.{Bool, ◌&&◌, ℕ, suc, ◌+◌, ◌*◌, ◌^◌, ◌≤◌, ◌<◌, leb}
+use Rattle.std.specs.Prelude.{Bool, ◌&&◌, ℕ, suc, ◌+◌, ◌*◌, ◌^◌, ◌≤◌, ◌<◌, leb, Option, Some, None}
 use Rattle.exact.specs.Least.{least}
 use Rattle.exact.specs.Numbers.{largest_order}
 use Rattle.exact.specs.Series.{factorial}
-use Rattle.advice.specs.declared.Advice.{Advice}
-use Rattle.advice.specs.declared.Advice.TheVariants.{Order, None, Refused}
 use Rattle.advice.specs.Orders.{largest_M, tail_odds, Least}
 
 -- whether both conditions of Orders.antt hold, the second multiplied out; f is (N + 1)!
@@ -16,7 +14,6 @@ unfoldable pub order_for : ℕ → ℕ
 order_for M = least (λ N. is_enough M N (factorial (suc N))) largest_order
 
 -- what each case says of a whole M
-abbrev pub IsEntry : ℕ → Advice → Type 0
-IsEntry M (Order N) = (M ≤ largest_M) × Least M N
+abbrev pub IsEntry : ℕ → Option ℕ → Type 0
+IsEntry M (Some N) = (M ≤ largest_M) × Least M N
 IsEntry M None = largest_M < M
-IsEntry M (Refused r) = ⊥
