@@ -4,10 +4,10 @@ use mathlib.Core.Bool.{true, false}
 use Prim.Native.Nat.{ℕ, ◌+◌, ◌^◌, ◌≤◌, ◌<◌, zero-le}
 use native.Mathlib.Omega.{arith}
 use lib.Pow.{pow_pos}
-use lib.Dec.{T, ltb→lt}
+use lib.Dec.{T, eqb, ltb→lt}
 use lib.IntN.{ℤ, pos, negsuc, ◌+ℤ◌, ◌-ℤ◌, nat_abs}
 use lib.Signed.{mag, lt_z, non_neg}
-use borrow.Author.Tests.{lt-ltb}
+use borrow.Author.Tests.{ne_eqb, lt-ltb}
 use mir.Syntax.{Width, w32, w64}
 use mir.Facts.{to_z-of_z}
 use mir.Val.{SFits, hbits, to_z, of_z}
@@ -66,3 +66,8 @@ nonnegative (negsuc n) h = subst T h tt
 pub nonnegative_abs : (z : ℤ) → lt_z z (pos 0) ≡ false → nat_abs z ≡ pos_part z
 nonnegative_abs (pos n) h = refl
 nonnegative_abs (negsuc n) h = absurd (subst T h tt)
+
+-- only zero has the bits of zero
+pub zero_bits : (e : ℤ) → SFits w32 e → eqb (of_z w32 e) 0 ≡ eqb (nat_abs e) 0
+zero_bits (pos n) h = refl
+zero_bits (negsuc n) h = rw (ne_eqb (of_z w32 (negsuc n)) 0 (λ z. omega (arith, h.sfits, z)), ne_eqb (nat_abs (negsuc n)) 0 (λ z. omega (arith, z)))
