@@ -77,7 +77,7 @@ impl Line {
         self.added_fields(a);
     }
 
-    // What a record was answered, by its kind byte.
+    // What a record was answered, by its kind byte, which may be any.
     #[tactic(auto, using(crate::proofs::Putting::joined), unfolding(crate::specs::Line::outcome_text, crate::specs::Line::taken_text, crate::specs::Line::is_begin))]
     fn outcome(&mut self, kind: u8, a: Answer)
         requires { RoomFor self.old (outcome_text kind a) }

@@ -10,7 +10,8 @@ use encounter::state::Class;
 use exact::Scaled;
 use std::marker::Model;
 
-// The bytes put so far, which is all that a clause sees. Not std's `fmt::Write`: what `write!` writes, its contract does not say.
+// The bytes put so far, which is all that a clause sees. Not std's `fmt::Write`: what `write!` writes, its contract does not say. Not an `ArrayVec`: two fields need no
+// further crate below the library.
 #[derive(Drop)]
 pub struct Line {
     bytes: [u8; ROOM],
