@@ -12,6 +12,7 @@ ghost use Rattle.jinthuol.specs.Advice.{advice_numbers};
 ghost use Rattle.jinthuol.specs.Answer.{numbered, called};
 ghost use Rattle.jinthuol.specs.Doubles.{plotted_numbers};
 ghost use Rattle.week.specs.Week.{empty_week, enter as entry, week_ends};
+ghost use Rattle.week.specs.Told.{FromCalls};
 
 use advice::{Advice, advise, orders};
 use division::{Divided, divide};
@@ -30,7 +31,7 @@ use jinthuol::{
 use listing::put_line;
 use listing::script::{Piece, put_lines, put_too_long};
 use records::take_record;
-use week::{Ends, empty_week, enter, week_ends};
+use week::{Ends, Week, empty_week, enter, week_ends};
 
 // A session of which callers know only that calls left it.
 fn used(C: Conjunction, E: Encounter, count: u16, script: &[u8], at: usize) -> Session
@@ -129,15 +130,22 @@ pub fn stored_record(C: Conjunction, count: u16) -> Plotted
     read_plot_record(added.session)
 }
 
+// The week after an entry, accepted or refused.
+fn entered(week: Week, day: u32, s: Session) -> Week
+    requires { (FromCalls week) × Reached s }
+    ensures { (result ≡ (entry week day s).week) × FromCalls result }
+{
+    enter(week, day, s).unwrap_or(week)
+}
+
 // The ends of a week with two entries of that session, on any days.
 pub fn figure(C: Conjunction, count: u16, first: u32, second: u32) -> Ends
     ensures { result ≡ (let s = (call (adds count) (call (begins_conjunction C) empty_session).session).session in week_ends (entry (entry empty_week first s).week second s).week) }
 {
     let begun = begin_conjunction_lent(Session::empty(), C);
     let added = add_lent(begun.session, count);
-    let mut refusal: u32 = 0;
-    let once = enter(empty_week(), first, added.session, &mut refusal);
-    let twice = enter(once, second, added.session, &mut refusal);
+    let once = entered(empty_week(), first, added.session);
+    let twice = entered(once, second, added.session);
     week_ends(twice)
 }
 
