@@ -19,7 +19,7 @@ use Rattle.encounter.proofs.calls.Answering.{positive}
 use Rattle.week.specs.Told.{FromCalls, tell, after}
 use Rattle.week.proofs.Tests.{test_13, test_rest, as_read, a_ninth, has_place, stays, goes_in, read_number}
 
--- what code answers where a day is full
+-- what `ok_or` answers of the next place: none, or one
 pub full : {o : Option ℕ} {r : Result ℕ Refusal} {e : Refusal} → r ≡ ok_or o FullDay → r ≡ Err e → (o ≡ None) × (e ≡ FullDay)
 full = grind arith
 

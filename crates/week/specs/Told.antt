@@ -30,7 +30,7 @@ tell t day no_encounter = t
 tell t day (encounter_at C N) =
     cond (eqb (entry_refusal (encounter_at C N) day (length (reads_of t day))) 0) (set t day (reads_of t day ++ record { encounter = C.encounter; order = N } ∷ [])) t
 
--- document 01's two ends of a read
+-- document 01's two ends of a read, which its place has
 unfoldable pub place_of : Read → Ends
 place_of r = record { lower = lower_end r.encounter r.order; upper = upper_end r.encounter r.order }
 

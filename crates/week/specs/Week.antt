@@ -21,7 +21,7 @@ use Rattle.week.specs.declared.Ends.{Ends}
 abbrev pub empty_place : Option Ends
 empty_place = None
 
--- a bracket
+-- a bracket: the two ends of an answer
 abbrev pub ends_of : Answer → Ends
 ends_of a = record { lower = a.lower; upper = a.upper }
 

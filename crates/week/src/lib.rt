@@ -45,7 +45,7 @@ impl From<Reading> for Ends {
     }
 }
 
-// The number of a day's next empty place.
+// The number of a day's next empty place, where it has one.
 fn next_place(day: &Day) -> Option<usize>
     ensures { result ≡ position is_none day.now }
 {
@@ -79,7 +79,7 @@ impl Ends {
     }
 }
 
-// The ends of all brackets of a week, in day and place order, by the sum and the greater that take any numbers.
+// The ends of all brackets of a week, in day and place order, by the sum and the greater that take any numbers. A function of its own, since its clause mirrors the chain.
 fn gathered(week: &Week) -> Ends
     ensures { result ≡ fold with_bracket no_ends (filter_map (λ place. place) (flat_map (λ day. day) week.now)) }
 {
