@@ -526,8 +526,10 @@ use crate::words::word;
 use encounter::calls;
 use encounter::state::Session;
 use exact::Conjunction;
-use week::Bracket;
+use exact::Scaled;
+use week::Day;
 use week::Ends;
+use week::Week;
 use week::empty_week;
 use week::enter;
 use week::week_ends;
@@ -555,30 +557,31 @@ fn called(s: Session, b: &[u8; 30]) -> Session {
     Session::empty()
 }
 
-fn put_bracket(line: &mut [u8], at: usize, b: Bracket) -> usize {
-    let mut next = put(line, at, b.held);
-    next = put_scaled(line, next, b.lower);
-    put_scaled(line, next, b.upper)
+fn put_place(line: &mut [u8], at: usize, place: Option<Ends>) -> usize {
+    match place {
+        Some(ends) => {
+            let next = put(line, at, 1);
+            put_ends(line, next, ends)
+        }
+        None => {
+            let next = put(line, at, 0);
+            put_ends(line, next, Ends { lower: Scaled::ZERO, upper: Scaled::ZERO })
+        }
+    }
 }
 
-fn put_day(line: &mut [u8], at: usize, day: [Bracket; 8]) -> usize {
+fn put_day(line: &mut [u8], at: usize, day: Day) -> usize {
     let mut next = at;
-    let mut p: usize = 0;
-    while p < 8 {
-        let b = day[p];
-        next = put_bracket(line, next, b);
-        p += 1;
+    for place in day {
+        next = put_place(line, next, place);
     }
     next
 }
 
-fn put_week(line: &mut [u8], at: usize, w: [[Bracket; 8]; 7]) -> usize {
+fn put_week(line: &mut [u8], at: usize, w: Week) -> usize {
     let mut next = at;
-    let mut d: usize = 0;
-    while d < 7 {
-        let day = w[d];
+    for day in w {
         next = put_day(line, next, day);
-        d += 1;
     }
     next
 }
@@ -599,10 +602,14 @@ fn main(rt: HostRuntime) -> io::Result<()> {
     while let Ok(()) = input.read_exact(&mut record) {
         let number = record[1] as usize;
         if record[0] == 6 {
-            let mut refusal: u32 = 0;
             let s = sessions[number];
-            let entered = enter(w, word(&record, 2), s, &mut refusal);
-            w = entered;
+            let refusal = match enter(w, word(&record, 2), s) {
+                Ok(after) => {
+                    w = after;
+                    0
+                }
+                Err(refusal) => u32::from(refusal),
+            };
             let mut next = put(&mut line, 0, refusal);
             next = put_week(&mut line, next, w);
             put_ends(&mut line, next, week_ends(w));

@@ -12,6 +12,7 @@ ghost use Rattle.jinthuol.specs.Advice.{advice_numbers};
 ghost use Rattle.jinthuol.specs.Answer.{numbered};
 ghost use Rattle.jinthuol.specs.Doubles.{plotted_numbers};
 ghost use Rattle.week.specs.Week.{empty_week, enter as entry, week_ends};
+ghost use Rattle.week.specs.Told.{FromCalls};
 
 use advice::{advise, orders};
 use division::divide;
@@ -32,7 +33,7 @@ use jinthuol::{
 use listing::put_line;
 use listing::script::{Piece, put_lines, put_too_long};
 use records::take_record;
-use week::{Ends, empty_week, enter, week_ends};
+use week::{Ends, Week, empty_week, enter, week_ends};
 
 // A session of which callers know only that calls left it.
 fn used(C: Conjunction, E: Encounter, count: u16, script: &[u8], at: usize) -> Session
@@ -124,6 +125,14 @@ pub fn stored_record(C: Conjunction, count: u16) -> Result<Option<PlotRecord>, R
     read_plot_record(session)
 }
 
+// The week after an entry, accepted or refused.
+fn entered(week: Week, day: u32, s: Session) -> Week
+    requires { (FromCalls week) × Reached s }
+    ensures { (result ≡ (entry week day s).week) × FromCalls result }
+{
+    enter(week, day, s).unwrap_or(week)
+}
+
 // The ends of a week with two entries of that session, on any days.
 pub fn figure(C: Conjunction, count: u16, first: u32, second: u32) -> Ends
     ensures { result ≡ (let s = (call (adds count) (call (begins_conjunction C) empty_session).session).session in week_ends (entry (entry empty_week first s).week second s).week) }
@@ -131,9 +140,8 @@ pub fn figure(C: Conjunction, count: u16, first: u32, second: u32) -> Ends
     let mut session = Session::empty();
     session.begin_conjunction(C);
     session.add(count);
-    let mut refusal: u32 = 0;
-    let once = enter(empty_week(), first, session, &mut refusal);
-    let twice = enter(once, second, session, &mut refusal);
+    let once = entered(empty_week(), first, session);
+    let twice = entered(once, second, session);
     week_ends(twice)
 }
 

@@ -33,7 +33,7 @@ use exact::refusals::Refusal;
 use exact::{Conjunction, DAYS_A_WEEK, Decimal, Encounter, LARGEST_SCRIPT, PLACES_A_DAY, Scaled};
 use host::{PlotRecord, read_doubles, read_plot_record};
 use listing::script::{put_lines, put_too_long};
-use week::{Bracket, Ends, empty_week, enter, week_ends};
+use week::{Ends, empty_week, enter, week_ends};
 
 // The version of the functions below and their structs; bindings/c/jinthuol.h has the same number.
 pub const VERSION: u32 = 11;
@@ -77,6 +77,15 @@ pub struct Plotted {
     pub refusal: u32,
     pub tag: u32,
     pub plot: PlotRecord,
+}
+
+// A place of a week: held is 1 where it has the two ends of a read; in an empty place all is 0.
+#[repr(C)]
+#[derive(Clone, Copy)]
+pub struct Bracket {
+    pub held: u32,
+    pub lower: Scaled,
+    pub upper: Scaled,
 }
 
 // The places of a day.
@@ -251,10 +260,15 @@ pub fn jinthuol_enter(week: Week, day: u32, session: Session) -> Entered
     requires { (FromCalls (days_of week)) × Reached session }
     ensures { (result ≡ entered_as (week_entry (days_of week) day session)) × (days_of result.week ≡ (week_entry (days_of week) day session).week) × FromCalls (days_of result.week) }
 {
-    let mut refusal: u32 = 0;
-    let after = enter(arrays_of(week), day, session, &mut refusal);
-    let week = days_in(after);
-    Entered { refusal, week }
+    let before = arrays_of(week);
+    let (refusal, after) = match enter(before, day, session) {
+        Ok(after) => (0, after),
+        Err(refusal) => (u32::from(refusal), before),
+    };
+    Entered {
+        refusal,
+        week: days_in(after),
+    }
 }
 
 // The week's two ends.

@@ -1,43 +1,69 @@
 // A week between the array of arrays that crate `week` takes and the struct that programs in other languages have (request #111).
-ghost use Rattle.std.specs.Prelude.{◌≡◌};
-ghost use Rattle.jinthuol.specs.Week.{days_of, in_days};
+ghost use Rattle.std.specs.Prelude.{◌≡◌, map};
+ghost use Rattle.jinthuol.specs.Week.{bracket_of, place_in, days_of, in_days};
 
-use crate::{Day, Week};
-use exact::{DAYS_A_WEEK, PLACES_A_DAY};
-use week::{Bracket, empty_week};
+use crate::{Bracket, Day, Week};
+use exact::Scaled;
+use week;
+use week::Ends;
 
-fn places_of(days: [Day; DAYS_A_WEEK]) -> [[Bracket; PLACES_A_DAY]; DAYS_A_WEEK]
-    ensures { result ≡ days_of (record { days = days }) }
-{
-    let mut w = empty_week();
-    let mut d: usize = 0;
-    while d < DAYS_A_WEEK {
-        let day = days[d];
-        let places = day.places;
-        w[d] = places;
-        d += 1;
+impl From<Option<Ends>> for Bracket {
+    ghost from_gives = { λ place b. b ≡ bracket_of place };
+
+    fn from(place: Option<Ends>) -> Bracket {
+        match place {
+            Some(ends) => Bracket {
+                held: 1,
+                lower: ends.lower,
+                upper: ends.upper,
+            },
+            None => Bracket {
+                held: 0,
+                lower: Scaled::ZERO,
+                upper: Scaled::ZERO,
+            },
+        }
     }
-    w
 }
 
-pub fn arrays_of(week: Week) -> [[Bracket; PLACES_A_DAY]; DAYS_A_WEEK]
+impl From<Bracket> for Option<Ends> {
+    ghost from_gives = { λ b place. place ≡ place_in b };
+
+    fn from(b: Bracket) -> Option<Ends> {
+        if b.held == 0 {
+            return None;
+        }
+        Some(Ends {
+            lower: b.lower,
+            upper: b.upper,
+        })
+    }
+}
+
+fn places_of(day: Day) -> week::Day
+    ensures { result ≡ map place_in day.places }
+{
+    day.places.map(Option::from)
+}
+
+fn day_with(places: week::Day) -> Day
+    ensures { result ≡ record { places = map bracket_of places } }
+{
+    Day {
+        places: places.map(Bracket::from),
+    }
+}
+
+pub fn arrays_of(week: Week) -> week::Week
     ensures { result ≡ days_of week }
 {
-    let days = week.days;
-    places_of(days)
+    week.days.map(places_of)
 }
 
-pub fn days_in(week: [[Bracket; PLACES_A_DAY]; DAYS_A_WEEK]) -> Week
+pub fn days_in(week: week::Week) -> Week
     ensures { (result ≡ in_days week) × (days_of result ≡ week) }
 {
-    let places = week[0];
-    let first = Day { places };
-    let mut days = [first; DAYS_A_WEEK];
-    let mut d: usize = 0;
-    while d < DAYS_A_WEEK {
-        let places = week[d];
-        days[d] = Day { places };
-        d += 1;
+    Week {
+        days: week.map(day_with),
     }
-    Week { days }
 }

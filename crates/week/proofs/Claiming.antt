@@ -8,7 +8,7 @@ use lib.Dec.{lit<}
 use Rattle.exact.proofs.Operations.{sum_none, sum_comm}
 use Rattle.exact.specs.Steps.{lower_end, upper_end}
 use Rattle.encounter.specs.Enclosure.{Every}
-use Rattle.week.specs.declared.Bracket.{Bracket}
+use Rattle.week.specs.declared.Ends.{Ends}
 use Rattle.week.specs.Week.{Week, empty_week, held_in, held, greatest_of, added_up, week_ends}
 use Rattle.week.specs.Told.{Read, Told, place_of, week_with, Came}
 use Rattle.week.specs.Figure.{Quotients, IsGreatest, LiesBetween, OneFigure}
@@ -22,11 +22,11 @@ use Rattle.week.proofs.Listed.{entry_demands}
 
 lowers : (rs : List Read) → map (λ b. b.lower) (map place_of rs) ≡ map (λ r. lower_end r.encounter r.order) rs
 unfolding place_of
-lowers rs = map-map (λ (b : Bracket). b.lower) place_of rs
+lowers rs = map-map (λ (b : Ends). b.lower) place_of rs
 
 uppers : (rs : List Read) → map (λ b. b.upper) (map place_of rs) ≡ map (λ r. upper_end r.encounter r.order) rs
 unfolding place_of
-uppers rs = map-map (λ (b : Bracket). b.upper) place_of rs
+uppers rs = map-map (λ (b : Ends). b.upper) place_of rs
 
 between : {w : Week} (t : Told) → w ≡ week_with t → Every Encloses (flatten t) → (qs : List Frac) → Quotients (flatten t) qs → LiesBetween w qs
 unfolding week_ends
@@ -47,7 +47,7 @@ lower_is_greatest : (w : Week) → (held w ≡ [] → ⊥) → IsGreatest value 
 unfolding week_ends
 lower_is_greatest w some = is_greatest (map (λ b. b.lower) (held w)) (not_empty (held w) some)
   where
-    not_empty : (l : List Bracket) → (l ≡ [] → ⊥) → map (λ b. b.lower) l ≡ [] → ⊥
+    not_empty : (l : List Ends) → (l ≡ [] → ⊥) → map (λ b. b.lower) l ≡ [] → ⊥
     not_empty [] some e = some refl
     not_empty (b ∷ l) some e = cons-ne-nil _ _ e
 

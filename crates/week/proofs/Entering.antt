@@ -1,47 +1,57 @@
 -- What an entry promises, by cases, as code takes them.
-use mathlib.Core.Path.{◌≡◌, sym, ◌∙◌, ap, subst}
-use mathlib.Core.List.{[]}
+use mathlib.Core.Path.{◌≡◌, refl, sym, ◌∙◌, ap, subst}
 use Prim.Native.Nat.{ℕ, ◌≤◌, ◌<◌}
 use native.Mathlib.Omega.{arith}
-use lib.ListN.{get_or, set}
+use Rattle.std.specs.Prelude.{Option, Some, None, Result, Ok, Err}
+use Rattle.std.specs.Option.{ok_or}
+use Rattle.exact.specs.Kinds.{number_of, refusal_in}
+use Rattle.exact.specs.declared.refusals.Refusal.{Refusal}
+use Rattle.exact.specs.declared.refusals.Refusal.TheVariants.{NoDay, FullDay}
 use Rattle.exact.specs.Numbers.{days_a_week, places_a_day}
 use Rattle.exact.specs.Refusals.{test_24, entry_refusal}
 use Rattle.encounter.specs.declared.state.Session.{Session}
-use Rattle.encounter.specs.declared.state.Answer.{Answer}
+use Rattle.encounter.specs.declared.state.Reading.{Reading}
+use Rattle.encounter.specs.Session.{answer_of}
 use Rattle.encounter.specs.Calls.{history_of, reads, call, Reached, told_of}
-use Rattle.week.specs.declared.Bracket.{Bracket}
-use Rattle.week.specs.Week.{Week, day_of, next_place, ends_of, entered, enter}
+use Rattle.week.specs.Week.{Week, Entry, day_of, next_place, ends_of, entered, enter, entry_of}
+use Rattle.encounter.specs.declared.state.Answer.{Answer}
+use Rattle.encounter.proofs.calls.Answering.{positive}
 use Rattle.week.specs.Told.{FromCalls, tell, after}
-use Rattle.week.proofs.Tests.{test_13, test_rest, enters, stays, goes_in, read_number}
+use Rattle.week.proofs.Tests.{test_13, test_rest, as_read, a_ninth, has_place, stays, goes_in, read_number}
 
--- v is the week after the entry and r what is answered
-abbrev pub Promised : Week → ℕ → Session → (v : Week) (r : ℕ) → Type 0
-Promised w day s v r = (v ≡ (enter w day s).week) × (r ≡ (enter w day s).refusal) × FromCalls v
+-- what `ok_or` answers of the next place: none, or one
+pub full : {o : Option ℕ} {r : Result ℕ Refusal} {e : Refusal} → r ≡ ok_or o FullDay → r ≡ Err e → (o ≡ None) × (e ≡ FullDay)
+full = grind arith
 
-entered_is : (w : Week) (day : ℕ) {p : ℕ} {b c : Bracket} → p ≡ next_place (day_of w day) → b ≡ c → set w day (set (get_or w day []) p b) ≡ entered w day c
-unfolding entered
-entered_is w day e g = λ i. set w day (set (get_or w day []) (e i) (g i))
+pub got : {o : Option ℕ} {r : Result ℕ Refusal} {p : ℕ} → r ≡ ok_or o FullDay → r ≡ Ok p → o ≡ Some p
+got = grind arith
 
 module _ {w : Week} {s : Session} (f : FromCalls w) (reached : Reached s) (day : ℕ) where
-  keeps : {v : Week} {r : ℕ} → (v ≡ (enter w day s).week) × (r ≡ (enter w day s).refusal) → Promised w day s v r
-  keeps (e, g) = (e, g, subst FromCalls (sym e) (record { told = tell f.told day (told_of reached); came = after f.came day reached }))
+  -- the week after an entry is from these calls too
+  still : FromCalls (enter w day s).week
+  still = record { told = tell f.told day (told_of reached); came = after f.came day reached }
 
-  pub refused_13 : days_a_week ≤ day → Promised w day s w 13
-  refused_13 l = keeps (stays w day s (test_13 (history_of s) day (next_place (day_of w day)) l) (λ z. omega (arith, z)))
+  pub keeps : {v : Week} → entry_of w (Ok v) ≡ enter w day s → (entry_of w (Ok v) ≡ enter w day s) × FromCalls v
+  keeps e = (e, subst FromCalls (sym (ap (λ (x : Entry). x.week) e)) still)
 
-  module _ (in_week : day < days_a_week) {a : Answer} (is : a ≡ (call reads s).answer) {p : ℕ} (place : p ≡ next_place (day_of w day)) {r : ℕ} (tested : r ≡ test_24 a.refusal p) where
-    number_is : r ≡ entry_refusal (history_of s) day (next_place (day_of w day))
-    number_is =
-        tested ∙ (λ i. test_24 ((ap (λ (a : Answer). a.refusal) is ∙ read_number s) i) (place i)) ∙ test_rest (history_of s) day (next_place (day_of w day)) in_week
+module _ (w : Week) (s : Session) (day : ℕ) where
+  pub refused_13 : days_a_week ≤ day → entry_of w (Err NoDay) ≡ enter w day s
+  refused_13 l = stays w day s (test_13 (history_of s) day (next_place (day_of w day)) l) (λ z. omega (arith, z))
 
-    pub refused_later : (r ≡ 0 → ⊥) → Promised w day s w r
-    refused_later n = keeps (stays w day s number_is n)
+  module _ (in_week : day < days_a_week) where
+    number_is : (a : Result Reading Refusal) → answer_of a ≡ (call reads s).answer → test_24 (refusal_in a) (next_place (day_of w day)) ≡ entry_refusal (history_of s) day (next_place (day_of w day))
+    number_is (Ok x) e = rw (ap (λ (b : Answer). b.refusal) e ∙ read_number s) (test_rest (history_of s) day (next_place (day_of w day)) in_week)
+    number_is (Err r) e = rw (ap (λ (b : Answer). b.refusal) e ∙ read_number s) (test_rest (history_of s) day (next_place (day_of w day)) in_week)
 
-    -- the place is one of the day
-    pub room : r ≡ 0 → p < places_a_day
-    room z = let x = enters (history_of s) day (next_place (day_of w day)) (sym number_is ∙ z) in omega (arith, place, x.has_room)
+    pub refused_read : (e : Refusal) → answer_of (Err e) ≡ (call reads s).answer → entry_of w (Err e) ≡ enter w day s
+    refused_read e is =
+        let n : number_of e ≡ 0 → ⊥ = λ z. omega (arith, z, positive e) in
+        stays w day s (as_read (number_of e) (next_place (day_of w day)) n ∙ number_is (Err e) is) n
 
-    pub put_in : r ≡ 0 → {b : Bracket} → b ≡ ends_of a → Promised w day s (set w day (set (get_or w day []) p b)) r
-    put_in z {b} e =
-        let g = goes_in w day s (sym z ∙ number_is) in
-        keeps (entered_is w day place (e ∙ ap (λ (a : Answer). ends_of a) is) ∙ g.0, z ∙ g.1)
+    module _ {x : Reading} (is : answer_of (Ok x) ≡ (call reads s).answer) where
+      pub refused_24 : places_a_day ≤ next_place (day_of w day) → entry_of w (Err FullDay) ≡ enter w day s
+      refused_24 l = stays w day s (a_ninth 0 (next_place (day_of w day)) refl l ∙ number_is (Ok x) is) (λ z. omega (arith, z))
+
+      pub put_in : next_place (day_of w day) < places_a_day → entry_of w (Ok (entered w day (record { lower = x.lower; upper = x.upper }))) ≡ enter w day s
+      put_in l =
+          ap (λ (a : Answer). record { refusal = 0; week = entered w day (ends_of a) }) is ∙ goes_in w day s (has_place 0 (next_place (day_of w day)) refl l ∙ number_is (Ok x) is)

@@ -1,22 +1,10 @@
--- Laws of lists: of a property of every element, and of a loop that folds.
-use mathlib.Core.Path.{◌≡◌, refl, sym, ap, ◌∙◌}
-use mathlib.Core.List.{List, [], ◌∷◌, ◌++◌, foldl, foldl-append, map, map-append, flatten}
-use Prim.Native.Nat.{ℕ, zero, suc, ◌+◌, ◌*◌, ◌≤◌, ◌<◌}
-use native.Mathlib.Numerals.{add-one}
+-- Laws of lists: of a property of every element, and of lists of lists.
+use mathlib.Core.Path.{◌≡◌, refl, ap, ◌∙◌}
+use mathlib.Core.List.{List, [], ◌∷◌, ◌++◌, map, map-append, flatten}
+use Prim.Native.Nat.{ℕ, zero, suc, ◌*◌, ◌≤◌, ◌<◌}
 use native.Mathlib.Omega.{arith}
-use lib.ListN.{length, get_or, set, take, replicate, length-append}
-use lib.Seq.{take-suc}
+use lib.ListN.{length, get_or, set, replicate, length-append}
 use Rattle.encounter.specs.Enclosure.{Every}
-
--- a turn of a loop that folds a list: i elements are folded, and then the next
-pub fold_turn :
-    {A B : Type 0} (f : B → A → B) (s₀ : B) (l : List A) (i : ℕ) (d : A) {s r : B} →
-    i < length l →
-    s ≡ foldl f s₀ (take i l) →
-    r ≡ f s (get_or l i d) →
-    r ≡ foldl f s₀ (take (i + 1) l)
-fold_turn {B = B} f s₀ l i d h e g =
-    g ∙ ap (λ (t : B). f t (get_or l i d)) e ∙ sym (rw add-one (ap (foldl f s₀) (take-suc l i d h) ∙ foldl-append f s₀ (take i l) (get_or l i d ∷ [])))
 
 -- ---- every element
 

@@ -1,8 +1,9 @@
 -- The greatest of a list, found by going through it.
+use Rattle.std.specs.Prelude.{fold}
 use mathlib.Core.Path.{◌≡◌, refl}
 use mathlib.Core.Bool.{Bool, true, false, cond}
 use mathlib.Core.List.Memᴰ
-use mathlib.Core.List.{List, [], ◌∷◌, foldl, Memᴰ}
+use mathlib.Core.List.{List, [], ◌∷◌, Memᴰ}
 use mathlib.Core.Logic.{inl, inr, ◌⊎◌}
 use Rattle.exact.specs.declared.Scaled.{Scaled}
 use Rattle.exact.specs.Fraction.{Frac, ◌≼◌, at_most}
@@ -34,15 +35,15 @@ module _ {A : Type 0} (worth : A → Frac) where
       go true e = ≼_refl (worth y)
       go false e = at_most_otherwise (worth x) (worth y) e
 
-  start_below : (x : A) (l : List A) → worth x ≼ worth (foldl larger x l)
+  start_below : (x : A) (l : List A) → worth x ≼ worth (fold larger x l)
   start_below x [] = ≼_refl (worth x)
   start_below x (y ∷ l) = ≼_trans (first_below x y) (start_below (larger x y) l)
 
-  all_below : (x : A) (l : List A) → Every (λ y. worth y ≼ worth (foldl larger x l)) l
+  all_below : (x : A) (l : List A) → Every (λ y. worth y ≼ worth (fold larger x l)) l
   all_below x [] = tt
   all_below x (y ∷ l) = (≼_trans (second_below x y) (start_below (larger x y) l), all_below (larger x y) l)
 
-  found : (x : A) (l : List A) → Memᴰ (foldl larger x l) (x ∷ l)
+  found : (x : A) (l : List A) → Memᴰ (fold larger x l) (x ∷ l)
   found x [] = Memᴰ.head refl
   found x (y ∷ l) = by (at_most (worth x) (worth y)) (Memᴰ.cases_cons (found (larger x y) l))
     where
@@ -51,7 +52,7 @@ module _ {A : Type 0} (worth : A → Frac) where
       by true (inl e) = Memᴰ.tail (Memᴰ.head e)
       by false (inl e) = Memᴰ.head e
 
-  pub greatest_is : (x : A) (l : List A) → IsGreatest worth (x ∷ l) (foldl larger x l)
+  pub greatest_is : (x : A) (l : List A) → IsGreatest worth (x ∷ l) (fold larger x l)
   greatest_is x l = record { one_of_them = found x l; none_above = (start_below x l, all_below x l) }
 
 -- from zero the first number of all is the greater one

@@ -9,7 +9,7 @@ use Rattle.encounter.specs.declared.state.Session.{Session}
 use Rattle.encounter.specs.Calls.{follow, session_of, history_of, reads, call}
 use Rattle.encounter.specs.Enclosure.{place}
 use Rattle.encounter.proofs.calls.Invariant.{Whole, session_is, history_is, whole_told, claim}
-use Rattle.week.specs.Week.{Week, day_of, next_place, enter}
+use Rattle.week.specs.Week.{Week, Entry, day_of, next_place, enter}
 use Rattle.week.specs.Lists.{EntersAsRead, EntryDemands}
 use Rattle.week.proofs.Tests.{enters, stays, goes_in, read_number}
 
@@ -20,8 +20,8 @@ enters_as_read {s} {h} o w day = record {
   is_read = refl;
   number = ap (λ (v : History). entry_refusal v day (next_place (day_of w day))) (history_is o);
   accepted = λ z. read_number s ∙ (enters (history_of s) day (next_place (day_of w day)) z).read_passes;
-  ends = λ z. sym (goes_in w day s (sym z)).0;
-  unchanged = λ n. sym (stays w day s refl n).0;
+  ends = λ z. sym (ap (λ (e : Entry). e.week) (goes_in w day s (sym z)));
+  unchanged = λ n. sym (ap (λ (e : Entry). e.week) (stays w day s refl n));
 }
 
 -- a read leaves the history and the session as they are

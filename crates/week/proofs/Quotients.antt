@@ -1,6 +1,7 @@
 -- The ends of reads, gathered, against their exact quotients.
+use Rattle.std.specs.Prelude.{fold}
 use mathlib.Core.Bool.{Bool, true, false, cond}
-use mathlib.Core.List.{List, [], ◌∷◌, foldl, map}
+use mathlib.Core.List.{List, [], ◌∷◌, map}
 use Prim.Native.Nat.{ℕ, ◌≤◌}
 use native.Mathlib.Omega.{arith}
 use lib.Dec.{lit<}
@@ -32,7 +33,7 @@ lower_below p [] f none e = tt
 lower_below p (r ∷ rs) f (more N' K n k c) e = (≼_trans (f.0.between N' K n k).0 e.0, lower_below p rs f.1 c e.1)
 
 -- a bound of every number is one of the greatest
-greatest_below : (p : Frac) (x : Scaled) (l : List Scaled) → value x ≼ p → Every (λ y. value y ≼ p) l → value (foldl greater x l) ≼ p
+greatest_below : (p : Frac) (x : Scaled) (l : List Scaled) → value x ≼ p → Every (λ y. value y ≼ p) l → value (fold greater x l) ≼ p
 unfolding greater
 greatest_below p x [] h e = h
 greatest_below p x (y ∷ l) h e = greatest_below p (greater x y) l (go (at_most (value x) (value y))) e.1
@@ -53,7 +54,7 @@ lower_is_below p rs qs f c e =
 
 -- ---- the sum
 
-sum_above : (p : Frac) (x : Scaled) (rs : List Read) {qs : List Frac} → p ≼ value x → Every Encloses rs → Quotients rs qs → p ⊕ total qs ≼ value (foldl (λ x y. U (value x ⊕ value y)) x (map (λ r. upper_end r.encounter r.order) rs))
+sum_above : (p : Frac) (x : Scaled) (rs : List Read) {qs : List Frac} → p ≼ value x → Every Encloses rs → Quotients rs qs → p ⊕ total qs ≼ value (fold (λ x y. U (value x ⊕ value y)) x (map (λ r. upper_end r.encounter r.order) rs))
 unfolding total
 sum_above p x [] h f none = ≼_trans (≼_of (add_zero p)) h
 sum_above p x (r ∷ rs) h f (more {qs = qs} N' K n k c) =

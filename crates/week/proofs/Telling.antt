@@ -22,11 +22,11 @@ use Rattle.encounter.specs.Enclosure.{Every}
 use Rattle.encounter.proofs.calls.AcceptedReads.{ReadOf, accepted_read}
 use Rattle.encounter.proofs.calls.Invariant.{history_is, whole_told, begun, encloses}
 use Rattle.encounter.proofs.calls.ReadNumbers.{lower_end_fine, upper_end_fine}
-use Rattle.week.specs.declared.Bracket.{Bracket}
-use Rattle.week.specs.Week.{Week, empty_week, day_of, next_place, ends_of, entered, enter}
-use Rattle.week.specs.Told.{Read, Told, nothing_told, reads_of, tell, place_of, day_with, week_with, Came, from_empty, after}
+use Rattle.week.specs.declared.Ends.{Ends}
+use Rattle.week.specs.Week.{Week, Entry, empty_week, day_of, next_place, ends_of, entered, enter}
+use Rattle.week.specs.Told.{Read, Told, nothing_told, reads_of, tell, place_of, day_with, week_with, Came, from_empty, after, FromCalls}
 use Rattle.week.proofs.Folding.{every_same, every_set, every_get, every_append, map_set, get_map}
-use Rattle.week.proofs.Places.{next_is, put_next}
+use Rattle.week.proofs.Places.{day_length, next_is, put_next}
 use Rattle.week.proofs.Tests.{test_13, enters, stays, goes_in}
 use Rattle.week.proofs.Quotients.{Encloses}
 
@@ -82,6 +82,13 @@ module _ {w : Week} {t : Told} (o : Sound w t) (day : ℕ) where
   unfolding week_with
   day_is l = ap (λ (v : Week). day_of v day) o.is ∙ get_map day_with t day [] [] (omega (arith, l, o.days))
 
+  -- a day has all its places
+  full_day : day < days_a_week → length (day_of w day) ≡ places_a_day
+  full_day l =
+      let rs = reads_of t day in
+      let few : length rs ≤ places_a_day = every_get (λ (rs : List Read). length rs ≤ places_a_day) t o.places day [] (lit≤ tt) in
+      ap length (day_is l) ∙ omega (arith, few, day_length rs)
+
   same_number : (h : History) → entry_refusal h day (next_place (day_of w day)) ≡ entry_refusal h day (length (reads_of t day))
   same_number h =
       ⊎_elim
@@ -108,12 +115,12 @@ module _ {w : Week} {t : Told} (o : Sound w t) (day : ℕ) where
       go : (b : Bool) → eqb (entry_refusal (history_of s) day (length (reads_of t day))) 0 ≡ b → Sound (enter w day s).week (tell t day (history_of s))
       go false e =
           let other : entry_refusal (history_of s) day (next_place (day_of w day)) ≡ 0 → ⊥ = λ z. eqb-false _ 0 e (sym (same_number (history_of s)) ∙ z) in
-          subst (λ (v : Week). Sound v (tell t day (history_of s))) (stays w day s refl other).0 (subst (λ (u : Told). Sound w u) (sym (told_nothing t day (history_of s) e)) o)
+          subst (λ (v : Week). Sound v (tell t day (history_of s))) (ap (λ (x : Entry). x.week) (stays w day s refl other)) (subst (λ (u : Told). Sound w u) (sym (told_nothing t day (history_of s) e)) o)
       go true e =
           let z = eqb-true (entry_refusal (history_of s) day (length (reads_of t day))) 0 e in
           let x = enters (history_of s) day (length (reads_of t day)) z in
           let f = accepted_read r x.read_passes in
-          let put : entered w day (place_of (read_at s)) ≡ (enter w day s).week = ap (λ (b : Bracket). entered w day b) (sym (ends_are f)) ∙ (goes_in w day s (sym z ∙ sym (same_number (history_of s)))).0 in
+          let put : entered w day (place_of (read_at s)) ≡ (enter w day s).week = ap (λ (b : Ends). entered w day b) (sym (ends_are f)) ∙ ap (λ (x : Entry). x.week) (goes_in w day s (sym z ∙ sym (same_number (history_of s)))) in
           let told : set t day (reads_of t day ++ read_at s ∷ []) ≡ tell t day (history_of s) =
           sym (ap (λ (h : History). tell t day h) (history_at f) ∙ told_read t day (conjunction_of s) s.N (ap (λ (h : History). eqb (entry_refusal h day (length (reads_of t day))) 0) (sym (history_at f)) ∙ e)) in
           subst (λ (v : Week). Sound v (tell t day (history_of s))) put
@@ -132,3 +139,6 @@ pub sound : {w : Week} {t : Told} → Came w t → Sound w t
 sound from_empty = nothing_sound
 sound (after {w} {t} c day {s} r) =
     subst (λ (h : History). Sound (enter w day s).week (tell t day h)) (history_is (whole_told r)) (step (sound c) day r)
+
+pub eight_places : {w : Week} → FromCalls w → (day : ℕ) → day < days_a_week → length (day_of w day) ≡ places_a_day
+eight_places f = full_day (sound f.came)

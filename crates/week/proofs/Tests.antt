@@ -63,13 +63,13 @@ module _ (w : Week) (day : ℕ) (s : Session) where
   abbrev number_of : ℕ
   number_of = entry_refusal (history_of s) day (next_place (day_of w day))
 
-  pub stays : {r : ℕ} → r ≡ number_of → (r ≡ 0 → ⊥) → (w ≡ (enter w day s).week) × (r ≡ (enter w day s).refusal)
+  pub stays : {r : ℕ} → r ≡ number_of → (r ≡ 0 → ⊥) → record { refusal = r; week = w } ≡ enter w day s
   unfolding enter
-  stays e n = (rw (ne_eqb number_of 0 (λ z. n (e ∙ z))), e)
+  stays {r} e n = rw (← e, ne_eqb r 0 n)
 
-  pub goes_in : 0 ≡ number_of → (entered w day (ends_of (call reads s).answer) ≡ (enter w day s).week) × (◌≡◌ {A = ℕ} 0 (enter w day s).refusal)
+  pub goes_in : 0 ≡ number_of → record { refusal = 0; week = entered w day (ends_of (call reads s).answer) } ≡ enter w day s
   unfolding enter
-  goes_in e = (rw (eq-eqb number_of 0 (sym e)), e)
+  goes_in e = rw (← e)
 
 -- the read's own refusal
 pub read_number : (s : Session) → (call reads s).answer.refusal ≡ refusal (history_of s) read

@@ -1,59 +1,54 @@
--- Laws of the loops that copy a week, day by day.
+-- The two forms of a week, place by place and day by day.
 use mathlib.Core.Path.{◌≡◌, refl, sym, ap, ◌∙◌}
-use mathlib.Core.List.{List, [], ◌∷◌, ◌++◌, map}
-use Prim.Native.Nat.{ℕ, ◌+◌, ◌≤◌, ◌<◌}
-use native.Mathlib.Numerals.{add-one}
+use mathlib.Core.List.{List, [], ◌∷◌, map}
+use Prim.Native.Nat.{ℕ, ◌<◌}
+use denote.Param.Members.{Mut}
+use lib.ListN.{length, length-map}
 use native.Mathlib.Omega.{arith}
-use lib.ListN.{length, length-map, get_or, get_or-map, set, take}
-use lib.Seq.{take-suc, take-suc-set, take_all}
-use Rattle.week.specs.declared.Bracket.{Bracket}
-use Rattle.week.specs.Week.{Entry}
-use Rattle.jinthuol.specs.declared.Day.{Day}
+use borrow.Author.Tests.{eq-eqb, ne_eqb}
+use Rattle.std.specs.Prelude.{Option, Some, None}
+use Rattle.std.specs.Array.{IsMapOf}
+use Rattle.std.specs.Fn.{Called}
+use Rattle.std.proofs.lemmas.List.{same_lists}
+use Rattle.week.specs.declared.Ends.{Ends}
+use Rattle.week.proofs.Folding.{get_map}
+use Rattle.week.specs.Week.{Entry, Week as Array}
+use Rattle.jinthuol.specs.declared.Bracket.{Bracket}
 use Rattle.jinthuol.specs.declared.Week.{Week}
-use Rattle.jinthuol.specs.declared.Entered.{Entered}
-use Rattle.jinthuol.specs.Week.{days_of, in_days, entered_as}
+use Rattle.jinthuol.specs.Week.{bracket_of, place_in, days_of, in_days, entered_as}
 
--- the elements before i are copied, and then the next
-pub copy_turn : {A : Type 0} (out from : List A) (i : ℕ) (a d : A) → i < length out → i < length from → take i out ≡ take i from → a ≡ get_or from i d → take (i + 1) (set out i a) ≡ take (i + 1) from
-copy_turn {A} out from i a d h k e g =
-    rw add-one (take-suc-set out i a h ∙ (λ j. e j ++ g j ∷ []) ∙ sym (take-suc from i d k))
+-- what `map` of an array gives, where each call gives what h does
+pub mapped : {F A B : Type 0} (g : Mut F (A × Unit {0}) B) (h : A → B) {f : F} (xs : List A) (ys : List B) {n : ℕ} → IsMapOf g f xs ys n → length xs ≡ n → ((p : F) (x : A) (y : B) (q : F) → Called g p (x, tt) y q → y ≡ h x) → ys ≡ map h xs
+mapped g h [] [] m l e = refl
+mapped g h [] (y ∷ ys) m l e = absurd (let z : ⊥ = omega (arith, m.long, l) in z)
+mapped g h (x ∷ xs) ys m l e =
+    same_lists ys (map h (x ∷ xs)) (omega (arith, m.long, l, length-map (x ∷ xs) h))
+    (λ k d b. let i : k < length (x ∷ xs) = omega (arith, b, m.long, l) in let a = m.at k x d (omega (arith, b, m.long)) in e a.0 _ _ a.1 a.2 ∙ sym (get_map h (x ∷ xs) k x d i))
 
-pub copied : {A : Type 0} (out from : List A) (i : ℕ) → length out ≤ i → length from ≤ i → take i out ≡ take i from → out ≡ from
-copied out from i h k e = sym (take_all i out h) ∙ e ∙ take_all i from k
+pub empty_is : (b : Bracket) → b.held ≡ 0 → None ≡ place_in b
+unfolding place_in
+empty_is b z = rw (eq-eqb b.held 0 z)
 
-abbrev pub places_of : Day → List Bracket
-places_of d = d.places
+pub held_is : (b : Bracket) → (b.held ≡ 0 → ⊥) → Some (record { lower = b.lower; upper = b.upper }) ≡ place_in b
+unfolding place_in
+held_is b n = rw (ne_eqb b.held 0 n)
 
-abbrev pub day_with : List Bracket → Day
-day_with p = record { places = p }
+-- into the struct and out of it
+place_back : (p : Option Ends) → place_in (bracket_of p) ≡ p
+unfolding place_in bracket_of
+place_back None = refl
+place_back (Some e) = refl
 
--- out of the struct
-pub arrays_turn : (out : List (List Bracket)) (days : List Day) (i : ℕ) (d : Day) {p : List Bracket} → i < length out → i < length days → take i out ≡ take i (map places_of days) → p ≡ (get_or days i d).places → take (i + 1) (set out i p) ≡ take (i + 1) (map places_of days)
-arrays_turn out days i d {p} h k e g = copy_turn out (map places_of days) i p (places_of d) h (omega (arith, k, length-map days places_of)) e (g ∙ sym (get_or-map places_of days i d))
+places_back : (day : List (Option Ends)) → map place_in (map bracket_of day) ≡ day
+places_back [] = refl
+places_back (p ∷ day) = λ i. place_back p i ∷ places_back day i
 
-pub arrays_done : (out : List (List Bracket)) (w : Week) (i : ℕ) → length out ≤ i → length w.days ≤ i → take i out ≡ take i (map places_of w.days) → out ≡ days_of w
-unfolding days_of
-arrays_done out w i h k e = copied out (map places_of w.days) i h (omega (arith, k, length-map w.days places_of)) e
-
--- into the struct
-pub days_turn : (out : List Day) (l : List (List Bracket)) (i : ℕ) (p : List Bracket) {q : Day} → i < length out → i < length l → take i out ≡ take i (map day_with l) → q ≡ day_with (get_or l i p) → take (i + 1) (set out i q) ≡ take (i + 1) (map day_with l)
-days_turn out l i p {q} h k e g = copy_turn out (map day_with l) i q (day_with p) h (omega (arith, k, length-map l day_with)) e (g ∙ sym (get_or-map day_with l i p))
-
-back : (l : List (List Bracket)) → map places_of (map day_with l) ≡ l
-back [] = refl
-back (p ∷ l) = ap (λ (r : List (List Bracket)). p ∷ r) (back l)
-
-pub days_back : (l : List (List Bracket)) → days_of (in_days l) ≡ l
+pub days_back : (l : Array) → days_of (in_days l) ≡ l
 unfolding days_of in_days
-days_back l = back l
+days_back [] = refl
+days_back (day ∷ l) = λ i. places_back day i ∷ days_back l i
 
-pub days_done : (out : List Day) (l : List (List Bracket)) (i : ℕ) → length out ≤ i → length l ≤ i → take i out ≡ take i (map day_with l) → (◌≡◌ {A = Week} (record { days = out }) (in_days l)) × (days_of (record { days = out }) ≡ l)
-unfolding in_days
-days_done out l i h k e =
-    let c : out ≡ map day_with l = copied out (map day_with l) i h (omega (arith, k, length-map l day_with)) e in
-    ((λ j. record { days = c j }), ap (λ (d : List Day). days_of (record { days = d })) c ∙ days_back l)
-
--- an entry
-pub entered_is : {r : ℕ} {v : List (List Bracket)} {w : Week} {e : Entry} → v ≡ e.week → r ≡ e.refusal → w ≡ in_days v → ◌≡◌ {A = Entered} (record { refusal = r; week = w }) (entered_as e)
+-- an entry, of which code has the refusal's number and the week after it
+pub entered_is : {r : ℕ} {v : Array} {w : Week} {e : Entry} → record { refusal = r; week = v } ≡ e → w ≡ in_days v → record { refusal = r; week = w } ≡ entered_as e
 unfolding entered_as
-entered_is a b c = λ i. record { refusal = b i; week = (c ∙ ap in_days a) i }
+entered_is a b = λ i. record { refusal = (a i).refusal; week = (b ∙ ap (λ (x : Entry). in_days x.week) a) i }
