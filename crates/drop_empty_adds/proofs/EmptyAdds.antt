@@ -47,9 +47,8 @@ module _ (l : List ℕ) where
     pub of_low_byte : (get_or l 1 0 ≡ 0 → ⊥) → false ≡ is_empty_add l
     of_low_byte some = sym (count ∙ ne_eqb (u16_at l 1) 0 (λ z. some (omega arith)))
 
-    pub of_high_byte : get_or l 1 0 ≡ 0 → eqb (get_or l 2 0) 0 ≡ is_empty_add l
-    of_high_byte z = go (eqb (get_or l 2 0) 0) refl
-      where
-        go : (t : Bool) → eqb (get_or l 2 0) 0 ≡ t → t ≡ is_empty_add l
-        go true f = let y = eqb-true (get_or l 2 0) 0 f in sym (count ∙ eq-eqb (u16_at l 1) 0 (omega arith))
-        go false f = let y = eqb-false (get_or l 2 0) 0 f in sym (count ∙ ne_eqb (u16_at l 1) 0 (λ x. y (omega arith)))
+    pub of_high_byte : (get_or l 2 0 ≡ 0 → ⊥) → false ≡ is_empty_add l
+    of_high_byte some = sym (count ∙ ne_eqb (u16_at l 1) 0 (λ z. some (omega arith)))
+
+    pub of_no_count : get_or l 1 0 ≡ 0 → get_or l 2 0 ≡ 0 → true ≡ is_empty_add l
+    of_no_count low high = sym (count ∙ eq-eqb (u16_at l 1) 0 (omega arith))

@@ -1,14 +1,12 @@
 -- The records moved together, in place.
-use mathlib.Core.Path.{◌≡◌, refl, sym, subst, ap, ◌∙◌}
+use mathlib.Core.Path.{◌≡◌, refl, sym, ap, ◌∙◌}
 use mathlib.Core.Bool.{Bool, true, false, cond}
 use mathlib.Core.List.{List, [], ◌∷◌, ◌++◌, flatten, append_assoc, append-nil}
 use Prim.Native.Nat.{ℕ, ◌+◌, ◌-◌, ◌≤◌, ◌<◌}
 use native.Mathlib.Omega.{arith}
-use native.Mathlib.Numerals.{add-one}
 use borrow.Author.Tests.{le-ltb, lt-ltb}
-use lib.Dec.{T}
-use lib.ListN.{length, take, drop, set, get_or, length-drop, length-append, take-append-drop, drop_of_length-le}
-use lib.Seq.{paste, paste-suc, drop-paste, take-paste, length-paste, drop-drop, get_or-drop, length-take-le, take_all}
+use lib.ListN.{length, take, drop, length-append, length-drop, take-append-drop, drop_of_length-le}
+use lib.Seq.{paste, drop-paste, take-paste, length-paste, drop-drop, length-take-le, take_all}
 use Rattle.exact.specs.Numbers.{largest_script}
 use Rattle.exact.specs.Refusals.{refuses_8}
 use Rattle.listing.proofs.Putting.{dropped as agree_later}
@@ -23,36 +21,7 @@ later a b n k h e =
     let s : k ≡ n + (k - n) = omega arith in
     rw s (agree_later a b n (k - n) e)
 
--- ---- bytes moved down
-
-module _ (l m : List ℕ) (from to k : ℕ) (h : to ≤ from) (within : from + k < length l) (e : m ≡ paste l to (drop from l) k) where
-  -- the byte that is moved was not written yet
-  not_written : get_or m (from + k) 0 ≡ get_or (drop from l) k 0
-  not_written =
-      let s : from + k ≡ (to + k) + (from - to) = omega arith in
-      let same : drop (to + k) m ≡ drop (to + k) l =
-      ap (drop (to + k)) e ∙ drop-paste l to (drop from l) k (omega arith) (omega (arith, length-drop from l)) in
-      rw s (sym (get_or-drop (to + k) m (from - to) 0) ∙ ap (λ (x : List ℕ). get_or x (from - to) 0) same ∙ get_or-drop (to + k) l (from - to) 0)
-      ∙ sym (get_or-drop from l k 0)
-
-  pub moved : set m (to + k) (get_or m (from + k) 0) ≡ paste l to (drop from l) (k + 1)
-  moved =
-      ap (λ (x : ℕ). set m (to + k) x) not_written
-      ∙ ap (λ (x : List ℕ). set x (to + k) (get_or (drop from l) k 0)) e
-      ∙ rw add-one (paste-suc l to (drop from l) k 0 (omega arith) (omega (arith, length-drop from l)))
-
 -- ---- one record more
-
--- a record, by the test of its bytes
-module _ (l : List ℕ) (from to n : ℕ) (t : Bool) (is : t ≡ is_empty_add (take (from + n - from) (drop from l))) where
-  tested : t ≡ is_empty_add (take n (drop from l))
-  tested = let e : from + n - from ≡ n = omega arith in is ∙ ap (λ (k : ℕ). is_empty_add (take k (drop from l))) e
-
-  pub drops : t ≡ true → KeptOrDropped l l from to n to
-  drops e = record { dropped = λ _. (refl, refl); kept = λ f. absurd (subst T (sym e ∙ tested ∙ f) tt) }
-
-  pub keeps : t ≡ false → (m : List ℕ) → m ≡ paste l to (drop from l) n → KeptOrDropped l m from to n (to + n)
-  keeps e m p = record { dropped = λ f. absurd (subst T (sym f ∙ sym tested ∙ e) tt); kept = λ _. (p, refl) }
 
 -- the script is read up to from, and what remains of that stands in the first bytes up to to
 pub record Going (l buf : List ℕ) (from to : ℕ) : Type 0 where
@@ -62,17 +31,17 @@ pub record Going (l buf : List ℕ) (from to : ℕ) : Type 0 where
   pub within : from ≤ length l
   pub same : length buf ≡ length l
 
-pub going_start : (l : List ℕ) → Going l l 0 0
-going_start l = record { is = refl; rest = refl; down = omega arith; within = omega arith; same = refl }
-
 module _ (l buf : List ℕ) (from to : ℕ) (g : Going l buf from to) where
-  pub unread : drop from buf ≡ drop from l
+  unread : drop from buf ≡ drop from l
   unread = later buf l to from g.down g.rest
 
-  pub part_is : take (length buf - from) (drop from buf) ≡ drop from l
+  part_is : take (length buf - from) (drop from buf) ≡ drop from l
   part_is = take_all (length buf - from) (drop from buf) (omega (arith, length-drop from buf)) ∙ unread
 
-  module _ (h : from < length buf) (n : ℕ) (first : n ≡ first_length (drop from l)) where
+  module _ (h : from < length buf) (n : ℕ) (found : n ≡ first_length (take (length buf - from) (drop from buf))) where
+    first : n ≡ first_length (drop from l)
+    first = found ∙ ap first_length part_is
+
     bounds : (0 < n) × (from + n ≤ length l)
     bounds =
         let b = first_some (drop from l) (omega (arith, length-drop from l, g.same)) in
@@ -145,16 +114,10 @@ module _ (l buf : List ℕ) (from to : ℕ) (g : Going l buf from to) where
       let size : length (dropped l) ≡ to = ap length (sym new) ∙ length-take-le to buf (omega (arith, g.down, g.within, g.same)) in
       record { is = sym (take-append-drop to buf) ∙ rw (new, g.rest, size); ends = sym size }
 
--- a script that is too long stays as it is
-pub too_long : (l : List ℕ) → largest_script < length l → InPlace l l 0
-too_long l h =
-    let z : refuses_8 l ≡ true = unfold refuses_8 in lt-ltb largest_script (length l) h in
-    record { is = rw (nothing_left l z); ends = rw (nothing_left l z) }
-
--- and of such a one nothing is left
+-- of a script that is too long nothing is left
 pub too_long_left : (l : List ℕ) → largest_script < length l → dropped l ≡ []
 too_long_left l h = nothing_left l (unfold refuses_8 in lt-ltb largest_script (length l) h)
 
--- the new script lies within what was lent
-pub new_within : (l buf : List ℕ) (r : ℕ) → InPlace l buf r → r ≤ length buf
-new_within l buf r p = omega (arith, p.ends, ap length p.is, length-append (dropped l) (drop (length (dropped l)) l))
+-- so what follows it is not looked at
+pub no_further : (l rest : List ℕ) → largest_script < length l → dropped (l ++ rest) ≡ dropped l
+no_further l rest h = too_long_left (l ++ rest) (omega (arith, h, length-append l rest)) ∙ sym (too_long_left l h)

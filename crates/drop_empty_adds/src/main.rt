@@ -1,6 +1,8 @@
 // drop_empty_adds: copies a script from standard input to standard output without its adds of count 0.
 #![tactic(auto)]
 
+ghost use Rattle.std.specs.Prelude.{OnOk, IfSome};
+ghost use Rattle.std.specs.Io.KnownBytes.{Appends};
 ghost use Rattle.streams.specs.Writing.{Appended, Handed};
 ghost use Rattle.drop_empty_adds.specs.Dropping.{dropped};
 
@@ -8,47 +10,42 @@ mod dropping;
 
 use crate::dropping::drop_empty_adds;
 use exact::LARGEST_SCRIPT;
-use std::io::Write;
-use streams::{Input, KEPT, Output, read_script};
+use std::io;
+use std::io::{Read, Write};
+use streams::{KEPT, read_script};
 
-// Writes the new script; of one that is too long, nothing.
-fn run<W: Write>(output: &mut W, script: &mut [u8]) -> Output
+const UNREAD: &str = "the script could not be read";
+
+const TOO_LONG: &str = "the script is longer than 65,536 bytes (refusal 8): nothing was written";
+
+const UNWRITTEN: &str = "the new script could not be written";
+
+// Writes the new script; of one that is too long, nothing. Answers how many bytes it has.
+fn run<W: Write>(output: &mut W, script: &mut [u8]) -> io::Result<usize>
     ensures handed { Handed (dropped script.old) result }
     ensures bytes { Appended (W.contents output.old) (W.contents output.new) (dropped script.old) result }
 {
     let n = drop_empty_adds(script);
-    if output.write_all(&script[..n]).is_ok() {
-        Output::Written(n)
-    } else {
-        Output::Failed
-    }
+    output.write_all(&script[..n])?;
+    Ok(n)
 }
 
-// Writes a line to standard error; whether that succeeds is not looked at.
-fn say<W: Write>(error: &mut W, line: &[u8]) {
-    let _ = error.write_all(line);
+// Reads a script and writes the new one, or answers why nothing or not all was written.
+fn copy<R: Read, W: Write>(input: &mut R, output: &mut W) -> Result<(), &'static str>
+    ensures { OnOk result (IfSome (R.remaining input.old) (λ script. Appends (W.contents output.old) (W.contents output.new) (dropped script))) }
+{
+    let mut kept = [0u8; KEPT];
+    let script = read_script(input, &mut kept).map_err(|_| UNREAD)?;
+    if LARGEST_SCRIPT < script.len() {
+        return Err(TOO_LONG);
+    }
+    run(output, script).map_err(|_| UNWRITTEN)?;
+    Ok(())
 }
 
 fn main(rt: HostRuntime) {
-    let mut script = [0u8; KEPT];
-    let Input::Bytes(n) = read_script(&mut rt.stdin(), &mut script) else {
-        say(
-            &mut rt.stderr(),
-            b"drop_empty_adds: the script could not be read\n",
-        );
-        return;
-    };
-    if LARGEST_SCRIPT < n {
-        say(
-            &mut rt.stderr(),
-            b"drop_empty_adds: the script is longer than 65,536 bytes (refusal 8): nothing was written\n",
-        );
+    if let Err(failure) = copy(&mut rt.stdin(), &mut rt.stdout()) {
+        // Whether this succeeds is not looked at.
+        let _ = eprintln!(rt; "drop_empty_adds: {failure}");
     }
-    let Output::Written(_) = run(&mut rt.stdout(), &mut script[..n]) else {
-        say(
-            &mut rt.stderr(),
-            b"drop_empty_adds: the new script could not be written\n",
-        );
-        return;
-    };
 }

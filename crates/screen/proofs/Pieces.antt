@@ -31,6 +31,11 @@ pub start_is : (l : List ℕ) → printed_from l 0 empty ≡ printed l
 unfolding printed_from printed
 start_is l = refl
 
+-- what follows a script that is too long is not looked at
+pub no_further : (l rest : List ℕ) → largest_script < length l → printed (l ++ rest) ≡ printed l
+unfolding printed refuses_8
+no_further l rest h = rw (lt-ltb largest_script (length l) h, lt-ltb largest_script (length (l ++ rest)) (omega (arith, length-append l rest))) refl
+
 -- the line of refusal 8 is the last piece
 pub next_long :
     (l : List ℕ) (i : ℕ) (s : Session) (before after : List ℕ) (used : ℕ) →

@@ -1,7 +1,7 @@
 // screen: runs a script from standard input and writes what document 01 says of it.
 #![tactic(auto)]
 
-ghost use Rattle.std.specs.Prelude.{◌≡◌, true, ◌≤◌, length, take};
+ghost use Rattle.std.specs.Prelude.{OnOk, IfSome};
 ghost use Rattle.std.specs.Io.KnownBytes.{Appends};
 ghost use Rattle.encounter.specs.Calls.{Reached};
 ghost use Rattle.listing.specs.Listing.{printed};
@@ -11,11 +11,16 @@ ghost use Rattle.screen.specs.Printing.{NextOf};
 use encounter::state::Session;
 use exact::LARGEST_SCRIPT;
 use listing::script::{Piece, put_lines, put_too_long};
-use std::io::Write;
-use streams::{Input, KEPT, Output, read_script};
+use std::io;
+use std::io::{Read, Write};
+use streams::{KEPT, read_script};
 
 // The bytes of a piece of the listing.
 const PIECE: usize = 65536;
+
+const UNREAD: &str = "the script could not be read";
+
+const UNWRITTEN: &str = "the listing could not be written";
 
 // A piece of what is left to print from a position on: the line of refusal 8 where the script is too long, and otherwise lines of its listing.
 #[tactic(auto, using(crate::proofs::Pieces::next_long, crate::proofs::Pieces::next_short))]
@@ -24,9 +29,8 @@ fn put_piece(script: &[u8], at: usize, s: Session, out: &mut [u8; PIECE]) -> Pie
     ensures { NextOf script.now at s out.new result }
 {
     if LARGEST_SCRIPT < script.len() {
-        let line = put_too_long(out);
         return Piece {
-            used: line,
+            used: put_too_long(out),
             next: at,
             session: s,
             ended: true,
@@ -35,55 +39,40 @@ fn put_piece(script: &[u8], at: usize, s: Session, out: &mut [u8; PIECE]) -> Pie
     put_lines(script, at, s, out)
 }
 
-// Writes the first bytes of the buffer, and answers whether all of them were written.
-fn write_out<W: Write>(output: &mut W, out: &[u8; PIECE], used: usize) -> bool
-    requires { used ≤ length out.now }
-    ensures { result ≡ true → Appends (W.contents output.old) (W.contents output.new) (take used out.now) }
-{
-    let all: &[u8] = out;
-    output.write_all(&all[..used]).is_ok()
-}
-
-// Writes what is printed for the script, piece by piece, up to a piece that could not be written.
-fn run<W: Write>(output: &mut W, script: &[u8]) -> Output
+// Writes what is printed for the script, piece by piece, up to a piece that could not be written. Answers how many bytes it has.
+fn run<W: Write>(output: &mut W, script: &[u8]) -> io::Result<usize>
     ensures handed { Handed (printed script.now) result }
     ensures bytes { Appended (W.contents output.old) (W.contents output.new) (printed script.now) result }
 {
     let mut out = [0u8; PIECE];
     let mut session = Session::empty();
-    let mut at: usize = 0;
-    let mut done: usize = 0;
+    let mut at = 0;
+    let mut done = 0;
     loop {
         let piece = put_piece(script, at, session, &mut out);
-        let used = piece.used;
-        if !write_out(output, &out, used) {
-            return Output::Failed;
-        }
-        done += used;
+        output.write_all(&out[..piece.used])?;
+        done += piece.used;
         if piece.ended {
-            return Output::Written(done);
+            return Ok(done);
         }
         session = piece.session;
         at = piece.next;
     }
 }
 
-// Writes a line to standard error; whether that succeeds is not looked at.
-fn say<W: Write>(error: &mut W, line: &[u8]) {
-    let _ = error.write_all(line);
+// Reads a script and writes what is printed for it, or answers what could not be done.
+fn screen<R: Read, W: Write>(input: &mut R, output: &mut W) -> Result<(), &'static str>
+    ensures { OnOk result (IfSome (R.remaining input.old) (λ script. Appends (W.contents output.old) (W.contents output.new) (printed script))) }
+{
+    let mut kept = [0u8; KEPT];
+    let script = read_script(input, &mut kept).map_err(|_| UNREAD)?;
+    run(output, script).map_err(|_| UNWRITTEN)?;
+    Ok(())
 }
 
 fn main(rt: HostRuntime) {
-    let mut script = [0u8; KEPT];
-    let Input::Bytes(n) = read_script(&mut rt.stdin(), &mut script) else {
-        say(&mut rt.stderr(), b"screen: the script could not be read\n");
-        return;
-    };
-    let Output::Written(_) = run(&mut rt.stdout(), &script[..n]) else {
-        say(
-            &mut rt.stderr(),
-            b"screen: the listing could not be written\n",
-        );
-        return;
-    };
+    if let Err(failure) = screen(&mut rt.stdin(), &mut rt.stdout()) {
+        // Whether this succeeds is not looked at.
+        let _ = eprintln!(rt; "screen: {failure}");
+    }
 }

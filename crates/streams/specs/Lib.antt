@@ -1,2 +1,2 @@
-pub mod ReadNumbers
+pub mod Reading
 pub mod Writing

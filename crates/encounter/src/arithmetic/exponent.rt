@@ -1,4 +1,4 @@
-// Arithmetic on exponents, for the decimals.
+// Arithmetic on exponents, for the decimals, with contracts on the parts of an integer.
 ghost use Rattle.std.specs.Prelude.{◌≡◌, ◌+◌, ◌^◌, ◌<◌, pos, ◌-ℤ◌};
 ghost use Rattle.std.specs.Int.{w64};
 ghost use Rattle.std.proofs.Common.{SFits};

@@ -12,7 +12,7 @@ pub struct Whole {
     pub rest: bool,
 }
 
-// How many bits n has.
+// How many bits n has. The contract is `size`, for four callers.
 pub fn bits(n: u64) -> u64
     requires { 0 < n }
     ensures { result ≡ size n }
@@ -20,7 +20,7 @@ pub fn bits(n: u64) -> u64
     u64::from(64 - n.leading_zeros())
 }
 
-// n followed by t zeros.
+// n followed by t zeros. `<<` promises n × 2^t without its upper bits; here none is lost.
 pub fn followed(n: u64, t: u64) -> u64
     requires { (t < 64) × (n * 2 ^ t < 2 ^ 64) }
     ensures { result ≡ n * 2 ^ t }
@@ -28,7 +28,7 @@ pub fn followed(n: u64, t: u64) -> u64
     n << t
 }
 
-// n, and k more where up is true.
+// n, and k more where up is true. A function of its own, since so its callers have no cases.
 fn upward(up: bool, n: u64, k: u64) -> u64
     requires { n + k < 2 ^ 64 }
     ensures { result ≡ n + cond up k 0 }
@@ -39,7 +39,7 @@ fn upward(up: bool, n: u64, k: u64) -> u64
     n
 }
 
-// n / k, or where up is true the whole number at or above it.
+// n / k, or where up is true the whole number at or above it. By `div_ceil` the rest would be tested for the quotient too.
 pub fn divided(up: bool, n: u64, k: u64) -> Whole
     requires { (0 < k) × (n + (k - 1) < 2 ^ 64) }
     ensures { IsWhole up (n / k) (ltb 0 (n % k)) result }

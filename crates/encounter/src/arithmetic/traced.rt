@@ -7,7 +7,7 @@ ghost use Rattle.exact.specs.Private.Ranges.{InRange};
 use crate::arithmetic::scaled;
 use exact::{Scaled, Traced};
 
-// A number on whose way nothing was lost.
+// A number on whose way nothing was lost. No `From`: both types are of crate exact.
 pub fn clean(number: Scaled) -> Traced
     ensures { result ≡ record { number = number; lost = false } }
 {

@@ -1,4 +1,4 @@
-// The arithmetic on scaled numbers in two machine words: each operation answers D (up is false) or U (up is true) of the exact value, and whether it lost anything.
+// The arithmetic on scaled numbers in two machine words, by functions, as `Scaled` and `Traced` can have no methods here: each operation answers D (up is false) or U (up is true) of the exact value, and whether it lost anything.
 ghost use Rattle.std.specs.Prelude.{◌≡◌, false, ◌/◌, ◌%◌, ◌^◌, ◌≤◌, ◌<◌, min, ltb, ◌-ℤ◌, ◌≤ℤ◌};
 ghost use Rattle.exact.specs.Fraction.{◌⊕◌, ◌⊗◌, ◌÷◌, ◌⊘◌, at_most};
 ghost use Rattle.exact.specs.Integer.{pos_part, neg_part};
@@ -16,7 +16,7 @@ pub struct Wide {
     pub e: i64,
 }
 
-// A rounded number, and whether its rounding lost anything (request #105).
+// A rounded number, and whether its rounding lost anything (request #105). Not generic with `Whole` and `Traced`: the flags mean different things.
 #[derive(Clone, Copy)]
 pub struct Rounded {
     pub number: Wide,

@@ -6,10 +6,10 @@ use Rattle.screen.specs.Printing.{printed_from}
 use Rattle.screen.proofs.Pieces.{Going}
 use Rattle.screen.proofs.run.Given as goal
 
-abbrev pub invariant-loop-out : goal.invariant-loop-out
-invariant-loop-out g l =
+abbrev pub invariant-loop-done : goal.invariant-loop-done
+invariant-loop-done g l =
     Going l.script l.at l.session l.done ×
     (bs : List ℕ) × Appends (g.W.Write.contents l.initial.output) (g.W.Write.contents l.output) bs × (bs ++ printed_from l.script l.at l.session ≡ printed l.script)
 
-abbrev pub decreases-loop-out : goal.decreases-loop-out
-decreases-loop-out g l = length (printed_from l.script l.at l.session)
+abbrev pub decreases-loop-done : goal.decreases-loop-done
+decreases-loop-done g l = length (printed_from l.script l.at l.session)

@@ -1,7 +1,7 @@
--- The buffer keeps its length, and the bytes read so far lie within it and are the input's. Each turn leaves fewer bytes to read.
+-- The bytes read so far lie within the buffer and are the input's. Each turn leaves fewer bytes to read.
 use Rattle.std.proofs.Common.{length, take, ◌-◌, ◌≡◌, ◌≤◌}
 use Rattle.std.specs.Io.KnownBytes.{Consumes}
-use Rattle.streams.proofs.fill.Given as goal
+use Rattle.streams.proofs.read_script.Given as goal
 
 abbrev pub invariant-loop-done : goal.invariant-loop-done
 invariant-loop-done g l =
