@@ -9,7 +9,7 @@ ghost use Rattle.host.specs.Private.Fitting.{double_range};
 
 use exact::Scaled;
 
-// e + 1053: one less than the exponent's field of the double.
+// e + 1053: one less than the exponent's field of the double. A function of its own for its contract, which tells a wrong field by itself.
 fn field(e: i32) -> u32
     requires { (pos_part e ≤ double_range) × (neg_part e ≤ double_range) }
     ensures { result + neg_part e ≡ pos_part e + 1053 }
