@@ -31,6 +31,7 @@ impl Session {
         ensures value { (result ≡ empty_session) × Reached result }
         ensures claims { Claims }
     {
+        // written out: the check does not see what a derived Default gives
         let zero = Scaled::ZERO;
         let side = Side {
             letters: Letters {

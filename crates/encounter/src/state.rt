@@ -39,7 +39,7 @@ pub struct Side {
 
 // The five inputs, the object number and the time of closest approach (both 0 after a begin without them), the order N (0 where no encounter was begun), both
 // sides, the upper r(256), M, and the upper d(N); then the count of exact terms, the leading ones (request #105), and 1 where nothing was lost on the way to
-// what the next term is formed of, else 0.
+// what the next term is formed of, else 0. C has the same struct, so no field is an Option or a bool.
 #[repr(C)]
 #[derive(Clone, Copy)]
 pub struct Session {
@@ -76,6 +76,7 @@ pub struct Reading {
 }
 
 // The refusal's number, or 0; then the order, both ends and the class, and of an accepted read the object number, the time and how many of the first terms are exact.
+// A number, and no Refusal: document 01 answers so, definitions `refused` and `call` have it, and `Answer::refused` and `put_line` of crate `listing` take any.
 #[derive(Clone, Copy)]
 pub struct Answer {
     pub refusal: u32,

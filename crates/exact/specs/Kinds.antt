@@ -1,5 +1,5 @@
 -- The refusals and the kinds of a record as types of code, each with the number that it has in the tables of document 01 and in document 02.
-use Rattle.std.specs.Prelude.{◌≡◌, false, ℕ, Result, Ok, Err, MatchResult}
+use Rattle.std.specs.Prelude.{◌≡◌, false, cond, List, [], ◌∷◌, ℕ, eqb, Result, Ok, Err, MatchResult}
 use Rattle.exact.specs.declared.refusals.Refusal.{Refusal}
 use Rattle.exact.specs.declared.refusals.Refusal.TheVariants.{NoKind, ShortBody, Radius, Sigma, LargerSigma, Miss, LargeT, LongScript, NoObject, Quotient, NeverReadable, EmptyAdd, NoDay, NotBegun, AboveLargestOrder, TailTooLarge, FullDay}
 use Rattle.exact.specs.declared.kinds.Kind.{Kind}
@@ -24,6 +24,17 @@ number_of NotBegun = 21
 number_of AboveLargestOrder = 22
 number_of TailTooLarge = 23
 number_of FullDay = 24
+
+-- the first of these with the number n, or else the last refusal of the tables
+unfoldable pub numbered : ℕ → List Refusal → Refusal
+numbered n [] = FullDay
+numbered n (e ∷ es) = cond (eqb n (number_of e)) e (numbered n es)
+
+-- the refusal with this number
+unfoldable pub refusal_of : ℕ → Refusal
+refusal_of n =
+    numbered n
+    (NoKind ∷ ShortBody ∷ Radius ∷ Sigma ∷ LargerSigma ∷ Miss ∷ LargeT ∷ LongScript ∷ NoObject ∷ Quotient ∷ NeverReadable ∷ EmptyAdd ∷ NoDay ∷ NotBegun ∷ AboveLargestOrder ∷ TailTooLarge ∷ [])
 
 -- the number of a refusal, or 0 where there is none
 abbrev pub refusal_in : {A : Type 0} → Result A Refusal → ℕ

@@ -5,7 +5,7 @@ use lib.Dec.{lit<}
 use Rattle.exact.specs.declared.refusals.Refusal.{Refusal}
 use Rattle.exact.specs.declared.refusals.Refusal.TheVariants.{NoKind, ShortBody, Radius, Sigma, LargerSigma, Miss, LargeT, LongScript, NoObject, Quotient, NeverReadable, EmptyAdd, NoDay, NotBegun, AboveLargestOrder, TailTooLarge, FullDay}
 use Rattle.exact.specs.Kinds.{number_of}
-use Rattle.host.specs.Refusals.{numbered, refusal_of}
+use Rattle.exact.specs.Kinds.{numbered, refusal_of}
 
 pub refusal_is : (e : Refusal) → refusal_of (number_of e) ≡ e
 unfolding numbered refusal_of

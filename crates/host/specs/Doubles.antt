@@ -13,7 +13,7 @@ use Rattle.encounter.specs.declared.state.Answer.{Answer}
 use Rattle.encounter.specs.Calls.{reads, call}
 use Rattle.host.specs.declared.Doubles.{Doubles}
 use Rattle.host.specs.declared.Doubles.TheVariants.{Both, Unbounded}
-use Rattle.host.specs.Refusals.{refusal_of}
+use Rattle.exact.specs.Kinds.{refusal_of}
 
 -- the double d is finite, not negative, and exactly q
 abbrev pub Worth : Float → Frac → Type 0

@@ -2,7 +2,7 @@
 use Rattle.std.specs.Prelude.{cond, ℕ, eqb, Option, Some, None, Result, Ok, Err}
 use Rattle.exact.specs.declared.refusals.Refusal.{Refusal}
 use Rattle.exact.specs.Kinds.{number_of}
-use Rattle.host.specs.Refusals.{refusal_of}
+use Rattle.exact.specs.Kinds.{refusal_of}
 use Rattle.jinthuol.specs.declared.Advice.{Advice}
 
 -- the refusal's number, or 0; the order, or 0 where there is none

@@ -4,7 +4,7 @@ use Rattle.exact.specs.declared.refusals.Refusal.{Refusal}
 use Rattle.exact.specs.declared.Scaled.{Scaled}
 use Rattle.exact.specs.Kinds.{refusal_in}
 use Rattle.division.specs.Division.{quotient_in}
-use Rattle.host.specs.Refusals.{refusal_of}
+use Rattle.exact.specs.Kinds.{refusal_of}
 use Rattle.jinthuol.specs.declared.Divided.{Divided}
 
 -- the refusal's number, or 0; the quotient, which is zero where it is refused

@@ -6,7 +6,7 @@ use Rattle.exact.specs.Kinds.{number_of}
 use Rattle.host.specs.declared.Doubles.{Doubles as WithCases}
 use Rattle.host.specs.declared.Doubles.TheVariants.{Both, Unbounded}
 use Rattle.host.specs.declared.PlotRecord.{PlotRecord}
-use Rattle.host.specs.Refusals.{refusal_of}
+use Rattle.exact.specs.Kinds.{refusal_of}
 use Rattle.jinthuol.specs.declared.Doubles.{Doubles}
 use Rattle.jinthuol.specs.declared.Plotted.{Plotted}
 

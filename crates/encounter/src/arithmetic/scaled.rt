@@ -1,4 +1,6 @@
-// The operations on scaled numbers: each answers D (up is false) or U (up is true) of the exact value, and whether that lost anything.
+// The operations on scaled numbers: each answers D (up is false) or U (up is true) of the exact value, and whether that lost anything. The direction is a bool, as it is
+// in every definition. They are functions, and not methods, since `Scaled` and `Traced` are of crate exact; each is one line over that of wide.rt, and those of traced.rt
+// over these: one function over the operation would have its premise and its value as ghost arguments, and be no plainer.
 ghost use Rattle.std.specs.Prelude.{◌≡◌, false, ◌^◌, ◌<◌};
 ghost use Rattle.exact.specs.Arithmetic.{rounding};
 ghost use Rattle.exact.specs.Fraction.{◌⊕◌, ◌⊗◌, ◌÷◌, ◌⊘◌, ◌over◌, at_most};
