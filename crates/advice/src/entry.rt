@@ -1,4 +1,4 @@
-// The entry for an M that is taken up to a whole number.
+//! The entry for an M that is taken up to a whole number.
 ghost use Rattle.std.specs.Prelude.{◌≡◌};
 ghost use Rattle.exact.specs.Integer.{pos_part};
 ghost use Rattle.exact.specs.Scaled.{value};
@@ -22,7 +22,7 @@ fn taken_up(x: Scaled) -> u64
     u64::from(x.m).div_ceil(1u64 << n)
 }
 
-// The entry for x taken up to a whole number, if the table has one.
+/// The entry for x taken up to a whole number, if the table has one.
 #[tactic(auto, using(crate::proofs::TakenUp::above_0, crate::proofs::TakenUp::not_above_0, crate::proofs::TakenUp::one_at_least, crate::proofs::TakenUp::entry_none, crate::proofs::TakenUp::entry_some))]
 pub fn entry_for(x: Scaled) -> Option<u16>
     requires { Positive x }

@@ -1,4 +1,4 @@
-// Request #106 of document 02: the order that a session is advised to be summed to.
+//! Request #106 of document 02: the order that a session is advised to be summed to.
 #![tactic(auto)]
 
 ghost use Rattle.std.specs.Prelude.{◌≡◌};
@@ -13,8 +13,8 @@ pub use crate::table::orders;
 use encounter::state::Session;
 use exact::refusals::Refusal;
 
-// The advised order of the session's encounter: the entry of the table for M taken up to a whole number, or none where M is above 256. Refused as 21 where no
-// encounter is begun. What holds at that order and later is in `Claims`, which `orders` promises.
+/// The advised order of the session's encounter: the entry of the table for M taken up to a whole number, or none where M is above 256. Refused as 21 where no
+/// encounter is begun. What holds at that order and later is in `Claims`, which `orders` promises.
 #[tactic(auto, using(crate::proofs::Advising::advice_none, crate::proofs::Advising::advice_some_is, crate::proofs::Advising::says_entry))]
 pub fn advise(s: Session) -> Result<Option<u16>, Refusal>
     requires { Reached s }

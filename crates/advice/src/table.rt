@@ -1,10 +1,10 @@
-// The table of orders, and its entry for a whole M.
+//! The table of orders, and its entry for a whole M.
 ghost use Rattle.std.specs.Prelude.{◌≡◌, ◌≤◌};
 ghost use Rattle.advice.specs.Orders.{largest_M, Least, Orders};
 ghost use Rattle.advice.specs.Claims.{Claims};
 ghost use Rattle.advice.specs.Private.Order.{order_for as entry};
 
-// "one for each whole M from 1 to 256"
+/// "one for each whole M from 1 to 256"
 pub const LARGEST_M: u64 = 256;
 
 // The entry for M stands at M - 1.
@@ -25,7 +25,7 @@ const ORDERS: [u16; 256] = [
     703, 706, 708,
 ];
 
-// The table of orders, one for each whole M from 1 to 256.
+/// The table of orders, one for each whole M from 1 to 256.
 pub fn orders() -> [u16; 256]
     ensures orders { Orders result }
     ensures claims { Claims }
@@ -33,7 +33,7 @@ pub fn orders() -> [u16; 256]
     ORDERS
 }
 
-// The entry for M.
+/// The entry for M.
 pub fn order_for(M: u64) -> u16
     requires { (1 ≤ M) × (M ≤ largest_M) }
     ensures { (result ≡ entry M) × Least M result }

@@ -1,6 +1,6 @@
-// A customer: it calls every public function of the library as a caller would, with any numbers and bytes, and meets each premise by the promise of the call
-// before. Only a function that takes or lends a session has a premise here, `Reached`, and one that takes a week, `FromCalls`; their callers start from the empty session
-// and the empty week.
+//! A customer: it calls every public function of the library as a caller would, with any numbers and bytes, and meets each premise by the promise of the call
+//! before. Only a function that takes or lends a session has a premise here, `Reached`, and one that takes a week, `FromCalls`; their callers start from the empty session
+//! and the empty week.
 #![tactic(auto)]
 
 ghost use Rattle.std.specs.Prelude.{◌≡◌};
@@ -35,7 +35,7 @@ use listing::script::{Piece, put_lines, put_too_long};
 use records::take_record;
 use week::{Ends, Week, empty_week, enter, week_ends};
 
-// A session of which callers know only that calls left it.
+// A session of which callers know only that calls left it. The arguments are any, and have no struct: one of a caller's own would tie them together.
 fn used(C: Conjunction, E: Encounter, count: u16, script: &[u8], at: usize) -> Session
     ensures { Reached result }
 {
@@ -84,7 +84,7 @@ fn for_a_host(
     read_doubles(session)
 }
 
-// What a read answers after a begin, a second begin with object and time, and an add. The session is lent for each.
+/// What a read answers after a begin, a second begin with object and time, and an add. The session is lent for each.
 pub fn bracket(E: Encounter, C: Conjunction, count: u16) -> Answer
     ensures { result ≡ (call reads (call (adds count) (call (begins_conjunction C) (call (begins E) empty_session).session).session).session).answer }
 {
@@ -96,7 +96,7 @@ pub fn bracket(E: Encounter, C: Conjunction, count: u16) -> Answer
 }
 
 // The same as a reading or its refusal.
-pub fn bracket_or_refusal(E: Encounter, C: Conjunction, count: u16) -> Result<Reading, Refusal>
+fn bracket_or_refusal(E: Encounter, C: Conjunction, count: u16) -> Result<Reading, Refusal>
     ensures { answer_of result ≡ (call reads (call (adds count) (call (begins_conjunction C) (call (begins E) empty_session).session).session).session).answer }
 {
     let mut session = Session::empty();
@@ -106,7 +106,7 @@ pub fn bracket_or_refusal(E: Encounter, C: Conjunction, count: u16) -> Result<Re
     calls::reading(session)
 }
 
-// What a session is advised after a begin.
+/// What a session is advised after a begin.
 pub fn advised_order(E: Encounter) -> Result<Option<u16>, Refusal>
     ensures { result ≡ advice (call (begins E) empty_session).session }
 {
@@ -115,7 +115,7 @@ pub fn advised_order(E: Encounter) -> Result<Option<u16>, Refusal>
     advise(session)
 }
 
-// What the plotting tool stores after a begin with object and time, and an add.
+/// What the plotting tool stores after a begin with object and time, and an add.
 pub fn stored_record(C: Conjunction, count: u16) -> Result<Option<PlotRecord>, Refusal>
     ensures { result ≡ plotted (call (adds count) (call (begins_conjunction C) empty_session).session).session }
 {
@@ -133,7 +133,7 @@ fn entered(week: Week, day: u32, s: Session) -> Week
     enter(week, day, s).unwrap_or(week)
 }
 
-// The ends of a week with two entries of that session, on any days.
+/// The ends of a week with two entries of that session, on any days.
 pub fn figure(C: Conjunction, count: u16, first: u32, second: u32) -> Ends
     ensures { result ≡ (let s = (call (adds count) (call (begins_conjunction C) empty_session).session).session in week_ends (entry (entry empty_week first s).week second s).week) }
 {
@@ -145,7 +145,7 @@ pub fn figure(C: Conjunction, count: u16, first: u32, second: u32) -> Ends
     week_ends(twice)
 }
 
-// The same from the exported calls.
+/// The same from the exported calls.
 pub fn bracket_exported(E: Encounter, C: Conjunction, count: u16) -> jinthuol::Answer
     ensures { result ≡ numbered (call reads (call (adds count) (call (begins_conjunction C) (call (begins E) empty_session).session).session).session).answer }
 {

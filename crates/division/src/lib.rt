@@ -1,4 +1,4 @@
-// Request #107 of document 02: the division of a scaled number by a whole number, for everyone.
+//! Request #107 of document 02: the division of a scaled number by a whole number, for everyone.
 #![tactic(auto)]
 
 ghost use Rattle.std.specs.Prelude.{◌≡◌};
@@ -24,7 +24,7 @@ fn refused(number: Scaled, divisor: u32) -> bool
     number.m < 2147483648 || number.e < LOWEST_EXPONENT
 }
 
-// D (up is false) or U (up is true) of the exact quotient: that of the mantissa, with its exponent moved by the number's. Refused as 10.
+/// D (up is false) or U (up is true) of the exact quotient: that of the mantissa, with its exponent moved by the number's. Refused as 10.
 #[tactic(auto, using(crate::proofs::Dividing::claims, crate::proofs::Dividing::refusing, crate::proofs::Dividing::answer_zero, crate::proofs::Dividing::sum_fits, crate::proofs::Dividing::answer_normal, crate::proofs::Dividing::says))]
 pub fn divide(up: bool, number: Scaled, divisor: u32) -> Result<Scaled, Refusal>
     ensures value { (result ≡ divided up number divisor) × Says up number divisor result }

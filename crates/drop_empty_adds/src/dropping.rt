@@ -1,4 +1,4 @@
-// A script without its adds of count 0, in place.
+//! A script without its adds of count 0, in place.
 ghost use Rattle.std.specs.Prelude.{◌≡◌, ◌+◌, ◌≤◌, length};
 ghost use Rattle.drop_empty_adds.specs.Dropping.{first_length, is_empty_add, InPlace};
 ghost use Rattle.drop_empty_adds.specs.Claims.{Claims};
@@ -53,8 +53,8 @@ fn keep(script: &mut [u8], from: usize, to: usize, n: usize) -> usize
     to + n
 }
 
-// Drops the adds of count 0 and moves the other records together. Answers how many bytes the new script has; one that is too long has none, and stays as it is.
-// A number and no slice: the contract says what all of the lent bytes are afterwards, which a slice that is lent back would leave open.
+/// Drops the adds of count 0 and moves the other records together. Answers how many bytes the new script has; one that is too long has none, and stays as it is.
+/// A number and no slice: the contract says what all of the lent bytes are afterwards, which a slice that is lent back would leave open.
 #[tactic(auto, using(crate::proofs::Moving::too_long_left, crate::proofs::Moving::finished, crate::proofs::Claiming::claims))]
 pub fn drop_empty_adds(script: &mut [u8]) -> usize
     ensures in_place { InPlace script.old script.new result }

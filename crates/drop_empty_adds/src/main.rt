@@ -1,4 +1,4 @@
-// drop_empty_adds: copies a script from standard input to standard output without its adds of count 0.
+//! drop_empty_adds: copies a script from standard input to standard output without its adds of count 0.
 #![tactic(auto)]
 
 ghost use Rattle.std.specs.Prelude.{OnOk, IfSome};
@@ -30,7 +30,8 @@ fn run<W: Write>(output: &mut W, script: &mut [u8]) -> io::Result<usize>
     Ok(n)
 }
 
-// Reads a script and writes the new one, or answers why nothing or not all was written.
+// Like `screen` of that program, with another test, other texts and another promise: no function over a closure would be plainer. Reads a script and writes the new one,
+// or answers why nothing or not all was written.
 fn copy<R: Read, W: Write>(input: &mut R, output: &mut W) -> Result<(), &'static str>
     ensures { OnOk result (IfSome (R.remaining input.old) (λ script. Appends (W.contents output.old) (W.contents output.new) (dropped script))) }
 {

@@ -1,4 +1,4 @@
-// begin, with and without object and time, add and read, by value.
+//! begin, with and without object and time, add and read, by value.
 ghost use Rattle.std.specs.Prelude.{◌≡◌, ◌+◌, ◌≤◌};
 ghost use Rattle.exact.specs.Numbers.{largest_order};
 ghost use Rattle.encounter.specs.Session.{empty as empty_session, state, conjunction_of, answer_of};
@@ -26,49 +26,12 @@ use exact::refusals::Refusal;
 use exact::{Conjunction, Encounter, LARGEST_ORDER, Scaled};
 
 impl Session {
-    // No encounter begun.
+    /// No encounter begun.
     pub fn empty() -> Session
         ensures value { (result ≡ empty_session) × Reached result }
         ensures claims { Claims }
     {
-        // written out: the check does not see what a derived Default gives
-        let zero = Scaled::ZERO;
-        let side = Side {
-            letters: Letters {
-                u: zero,
-                h: zero,
-                X: zero,
-                Y: zero,
-                t: zero,
-            },
-            exponential: zero,
-            terms: Terms {
-                c: zero,
-                p: zero,
-                v: zero,
-                y: zero,
-                sum: zero,
-            },
-        };
-        Session {
-            encounter: Encounter {
-                R: 0,
-                sx: 0,
-                sy: 0,
-                xm: 0,
-                ym: 0,
-            },
-            object: 0,
-            time: 0,
-            N: 0,
-            lower: side,
-            upper: side,
-            r256: zero,
-            M: zero,
-            d: zero,
-            exact: 0,
-            lossless: 0,
-        }
+        Session::default()
     }
 }
 
@@ -104,7 +67,7 @@ fn begun_conjunction(C: Conjunction) -> Result<Session, Refusal>
     })
 }
 
-// Begins an encounter, without object and time.
+/// Begins an encounter, without object and time: refused as 3 to 7 or 11.
 pub fn begin(s: Session, E: Encounter) -> Called
     requires { Reached s }
     ensures { (result ≡ call (begins E) s) × Reached result.session }
@@ -112,7 +75,7 @@ pub fn begin(s: Session, E: Encounter) -> Called
     called(s, begun(E))
 }
 
-// Begins an encounter with its object number and its time.
+/// Begins an encounter with its object number and its time: refused as 3 to 7 or 11, then as 9.
 pub fn begin_conjunction(s: Session, C: Conjunction) -> Called
     requires { Reached s }
     ensures { (result ≡ call (begins_conjunction C) s) × Reached result.session }
@@ -170,7 +133,7 @@ fn added(s: Session, count: u16) -> Result<Session, Refusal>
     Ok(further(s, u32::from(count)))
 }
 
-// Adds terms.
+/// Adds terms: refused as 12, 21 or 22.
 pub fn add(s: Session, count: u16) -> Called
     requires { Reached s }
     ensures { (result ≡ call (adds count) s) × Reached result.session }
@@ -178,7 +141,7 @@ pub fn add(s: Session, count: u16) -> Called
     called(s, added(s, count))
 }
 
-// The bracket at the session's order: refused as 21 or 23.
+/// The bracket at the session's order: refused as 21 or 23.
 pub fn reading(s: Session) -> Result<Reading, Refusal>
     requires { Reached s }
     ensures { answer_of result ≡ (call reads s).answer }
@@ -202,7 +165,7 @@ pub fn reading(s: Session) -> Result<Reading, Refusal>
     })
 }
 
-// The same as an answer, with the refusal's number.
+/// The same as an answer, with the refusal's number.
 #[tactic(auto, using(crate::proofs::calls::Invariant::demands))]
 pub fn read(s: Session) -> Answer
     requires { Reached s }

@@ -1,5 +1,5 @@
-// A scaled number as four significant digits and a power of ten (request #103 of document 02).
-ghost use Rattle.std.specs.Prelude.{◌≡◌, false, MatchOption, pred, ◌+◌, ◌*◌, ◌/◌, ◌^◌, ◌≤◌, ◌<◌};
+//! A scaled number as four significant digits and a power of ten (request #103 of document 02).
+ghost use Rattle.std.specs.Prelude.{◌≡◌, false, MatchOption, pred, ◌+◌, ◌*◌, ◌/◌, ◌^◌, ◌≤◌, ◌<◌, pos, ◌-ℤ◌};
 ghost use Rattle.exact.specs.declared.Scaled.{Scaled as Number};
 ghost use Rattle.exact.specs.Integer.{pos_part};
 ghost use Rattle.exact.specs.Fraction.{◌≈◌};
@@ -10,7 +10,6 @@ ghost use Rattle.encounter.specs.Private.Loops.{narrow, InBinade};
 
 mod tens;
 
-use crate::arithmetic::exponent::{gap, lowered};
 use crate::arithmetic::wide::{Wide, product};
 use crate::decimals::tens::{POWERS, power_of_ten};
 use exact::{Decimal, Scaled};
@@ -20,6 +19,13 @@ const ZERO: Decimal = Decimal {
     power: 0,
 };
 
+// How many bits a number with this exponent has below the point.
+fn below_point(e: i64) -> u64
+    ensures { result ≡ pos_part (pos 0 -ℤ e) }
+{
+    e.min(0).unsigned_abs()
+}
+
 // x with a mantissa of 32 bits, for an x that is not zero.
 fn normal(x: Scaled) -> Wide
     requires { 0 < x.m }
@@ -28,7 +34,7 @@ fn normal(x: Scaled) -> Wide
     let z = x.m.leading_zeros();
     Wide {
         m: u64::from(x.m << z),
-        e: lowered(i64::from(x.e), u64::from(z)),
+        e: i64::from(x.e) - i64::from(z),
     }
 }
 
@@ -37,7 +43,7 @@ fn whole_part(p: Wide) -> u64
     requires { (InRange 32 (2 ^ 28) (narrow p)) × (pos_part p.e ≡ 0) }
     ensures { result ≡ floor (value (narrow p)) }
 {
-    let n = gap(0, p.e);
+    let n = below_point(p.e);
     if n < 64 { p.m >> n } else { 0 }
 }
 
@@ -131,7 +137,7 @@ fn below_one(up: bool, x: Wide, s: u64) -> Decimal
     }
 }
 
-// x in decimal, as a lower end or, where up is true, as an upper one: four significant digits and a power of ten. It takes any m and e.
+/// x in decimal, as a lower end or, where up is true, as an upper one: four significant digits and a power of ten. It takes any m and e.
 pub fn to_decimal(up: bool, x: Scaled) -> Decimal
     ensures { (result ≡ decimal_of up x) × Printed up x result × (Found up x → Near x result) }
 {
@@ -140,7 +146,7 @@ pub fn to_decimal(up: bool, x: Scaled) -> Decimal
     }
     // y is x, with n bits below the point: it is 1 or more where n is at most 31, and below 2^-143, out of the table's reach, where n is above 174
     let y = normal(x);
-    let n = gap(0, y.e);
+    let n = below_point(y.e);
     if n < 32 {
         return Decimal {
             digits: 1000,

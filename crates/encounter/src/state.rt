@@ -1,14 +1,14 @@
-// The session: all that is kept of one encounter between calls, and what a call answers.
+//! The session: all that is kept of one encounter between calls, and what a call answers.
 ghost use Rattle.std.specs.Prelude.{◌≡◌};
 ghost use Rattle.encounter.specs.Session.{refused, answer_of};
 
 use exact::refusals::Refusal;
 use exact::{Encounter, Scaled};
 
-// A side's letters. Like Terms it is no instance of the generic struct of steps/numbers.rt: a session is handed to C, and no generic struct can be (error
-// unsupported-generic-in-c).
+/// A side's letters. Like Terms it is no instance of the generic struct of steps/numbers.rt: a session is handed to C, and no generic struct can be (error
+/// unsupported-generic-in-c).
 #[repr(C)]
-#[derive(Clone, Copy)]
+#[derive(Clone, Copy, Default)]
 pub struct Letters {
     pub u: Scaled,
     pub h: Scaled,
@@ -17,9 +17,9 @@ pub struct Letters {
     pub t: Scaled,
 }
 
-// A side's c, p, v and y at N - 1, and its sum of c(0) to c(N - 1).
+/// A side's c, p, v and y at N - 1, and its sum of c(0) to c(N - 1).
 #[repr(C)]
-#[derive(Clone, Copy)]
+#[derive(Clone, Copy, Default)]
 pub struct Terms {
     pub c: Scaled,
     pub p: Scaled,
@@ -28,20 +28,22 @@ pub struct Terms {
     pub sum: Scaled,
 }
 
-// What a side keeps: its letters, its exponential sum and its terms.
+/// What a side keeps: its letters, its exponential sum and its terms.
 #[repr(C)]
-#[derive(Clone, Copy)]
+#[derive(Clone, Copy, Default)]
 pub struct Side {
     pub letters: Letters,
     pub exponential: Scaled,
     pub terms: Terms,
 }
 
-// The five inputs, the object number and the time of closest approach (both 0 after a begin without them), the order N (0 where no encounter was begun), both
-// sides, the upper r(256), M, and the upper d(N); then the count of exact terms, the leading ones (request #105), and 1 where nothing was lost on the way to
-// what the next term is formed of, else 0. C has the same struct, so no field is an Option or a bool.
+/// The five inputs, the object number and the time of closest approach (both 0 after a begin without them), the order N (0 where no encounter was begun), both
+/// sides, the upper r(256), M, and the upper d(N); then the count of exact terms, the leading ones (request #105), and 1 where nothing was lost on the way to
+/// what the next term is formed of, else 0. C has the same struct, so no field is an Option or a bool.
+/// That a session came from the calls is a premise (`Reached`) and no invariant: C hands sessions over, and the promises name it. So is what follows of a session with an
+/// encounter (`Begun`).
 #[repr(C)]
-#[derive(Clone, Copy)]
+#[derive(Clone, Copy, Default)]
 pub struct Session {
     pub encounter: Encounter,
     pub object: u32,
@@ -63,7 +65,7 @@ pub enum Class {
     Open,
 }
 
-// What an accepted read answers: the order, both ends and the class, the object number, the time and how many of the first terms are exact.
+/// What an accepted read answers: the order, both ends and the class, the object number, the time and how many of the first terms are exact.
 #[derive(Clone, Copy)]
 pub struct Reading {
     pub N: u32,
@@ -75,8 +77,8 @@ pub struct Reading {
     pub exact: u32,
 }
 
-// The refusal's number, or 0; then the order, both ends and the class, and of an accepted read the object number, the time and how many of the first terms are exact.
-// A number, and no Refusal: document 01 answers so, definitions `refused` and `call` have it, and `Answer::refused` and `put_line` of crate `listing` take any.
+/// The refusal's number, or 0; then the order, both ends and the class, and of an accepted read the object number, the time and how many of the first terms are exact.
+/// A number, and no Refusal: document 01 answers so, definitions `refused` and `call` have it, and `Answer::refused` and `put_line` of crate `listing` take any.
 #[derive(Clone, Copy)]
 pub struct Answer {
     pub refusal: u32,
@@ -90,7 +92,7 @@ pub struct Answer {
 }
 
 impl Answer {
-    // The answer of a refusal.
+    /// The answer of a refusal.
     pub fn refused(r: u32) -> Answer
         ensures { result ≡ refused r }
     {
@@ -127,7 +129,7 @@ impl From<Result<Reading, Refusal>> for Answer {
     }
 }
 
-// What a call answers, and the session after it.
+/// What a call answers, and the session after it.
 #[derive(Clone, Copy)]
 pub struct Called {
     pub answer: Answer,

@@ -1,4 +1,4 @@
-// The rounded steps of document 01: letters, terms, tail term and exponential.
+//! The rounded steps of document 01: letters, terms, tail term and exponential.
 pub mod counts;
 pub mod letters;
 pub mod losses;

@@ -1,4 +1,4 @@
-// The sum of two scaled numbers and the greater of them, by the private arithmetic, for any numbers: for crate `week` (request #111 of document 02).
+//! The sum of two scaled numbers and the greater of them, by the private arithmetic, for any numbers: for crate `week` (request #111 of document 02).
 ghost use Rattle.std.specs.Prelude.{◌≡◌};
 ghost use Rattle.encounter.specs.Sums.{in_limits, sum_in_limits, greater_in_limits};
 
@@ -20,7 +20,8 @@ fn in_limits(x: Scaled) -> bool
     if x.m == 0 { x.e == 0 } else { 1 << 31 <= x.m }
 }
 
-// D or U of a + b, for two scaled numbers with e from -2^28 to 2^28; zero for all others. Callers take `week_ends` of crate `week`, whose numbers are never others.
+/// D or U of a + b, for two scaled numbers with e from -2^28 to 2^28; zero for all others, as `sum_in_limits` has it. Callers take `week_ends` of crate `week`, whose
+/// numbers are never others.
 #[tactic(auto, unfolding(crate::specs::Sums::sum_in_limits, exact::specs::Arithmetic::rounding))]
 pub fn sum(up: bool, a: Scaled, b: Scaled) -> Scaled
     ensures { result ≡ sum_in_limits up a b }
@@ -32,7 +33,7 @@ pub fn sum(up: bool, a: Scaled, b: Scaled) -> Scaled
     }
 }
 
-// The greater of a and b, for two such numbers; zero for all others.
+/// The greater of a and b, for two such numbers; zero for all others, as `greater_in_limits` has it. Not `Ord::max`: there is no order outside the limits.
 #[tactic(auto, unfolding(crate::specs::Sums::greater_in_limits, crate::specs::Sums::greater))]
 pub fn greater(a: Scaled, b: Scaled) -> Scaled
     ensures { result ≡ greater_in_limits a b }

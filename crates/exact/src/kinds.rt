@@ -1,11 +1,11 @@
-// The kinds of a record, as their bytes are read.
+//! The kinds of a record, as their bytes are read.
 ghost use Rattle.std.specs.Prelude.{◌≡◌};
 ghost use Rattle.exact.specs.Records.{body_length};
 ghost use Rattle.exact.specs.Kinds.{kind_byte, Decodes};
 
 use crate::refusals::Refusal;
 
-// "Kind 1, begin", "Kind 2, add", "Kind 3, read"; kind 4 by request #104 of document 02.
+/// "Kind 1, begin", "Kind 2, add", "Kind 3, read"; kind 4 by request #104 of document 02.
 #[derive(Clone, Copy, Debug, PartialEq, Eq)]
 pub enum Kind {
     Begin = 1,
@@ -15,7 +15,7 @@ pub enum Kind {
 }
 
 impl Kind {
-    // The bytes of a body.
+    /// The bytes of a body.
     #[tactic(auto, unfolding(crate::specs::Records::body_length))]
     pub fn body_length(self) -> usize
         ensures { result ≡ body_length (kind_byte self) }

@@ -1,5 +1,5 @@
-// The scaled number of document 01, with the constants and the constructor that belong to it, a scaled number with whether something was lost on its way, the five inputs of an encounter, a conjunction, a decimal, and the paper's limits.
-// All else in this crate is definitions (specs/) and theorems (proofs/).
+//! The scaled number of document 01, with the constants and the constructor that belong to it; a scaled number with whether something was lost on its way; the inputs of
+//! an encounter, and a conjunction; a decimal; the refusals, the kinds of a record and the paper's limits. The rest is definitions (specs/) and theorems (proofs/).
 #![tactic(auto)]
 
 ghost use Rattle.std.specs.Prelude.{◌≡◌, false, ◌^◌, ◌<◌, pos, ◌-ℤ◌};
@@ -10,7 +10,7 @@ ghost use Rattle.exact.specs.Private.Round.{round};
 pub mod kinds;
 pub mod refusals;
 
-// The limits of specs/Numbers.antt.
+/// The limits of specs/Numbers.antt.
 pub const LARGEST_LENGTH: u32 = 10000000;
 
 pub const LARGEST_T: u32 = 64;
@@ -27,9 +27,9 @@ pub const DAYS_A_WEEK: usize = 7;
 
 pub const PLACES_A_DAY: usize = 8;
 
-// "Inputs are whole centimetres: combined radius R, larger standard deviation sx, smaller sy, mean miss xm and ym."
+/// "Inputs are whole centimetres: combined radius R, larger standard deviation sx, smaller sy, mean miss xm and ym."
 #[repr(C)]
-#[derive(Clone, Copy)]
+#[derive(Clone, Copy, Default)]
 pub struct Encounter {
     pub R: u32,
     pub sx: u32,
@@ -38,7 +38,7 @@ pub struct Encounter {
     pub ym: i32,
 }
 
-// Request #104: an encounter with an object number and a time of closest approach, "both unsigned 32-bit, the time in minutes from the epoch that the site chooses."
+/// Request #104: an encounter with an object number and a time of closest approach, "both unsigned 32-bit, the time in minutes from the epoch that the site chooses."
 #[repr(C)]
 #[derive(Clone, Copy)]
 pub struct Conjunction {
@@ -47,22 +47,22 @@ pub struct Conjunction {
     pub time: u32,
 }
 
-// m × 2^e: "e is a signed 32-bit number."
+/// m × 2^e: "e is a signed 32-bit number."
 #[repr(C)]
-#[derive(Clone, Copy)]
+#[derive(Clone, Copy, Default)]
 pub struct Scaled {
     pub m: u32,
     pub e: i32,
 }
 
-// Request #105: a number, and whether something was lost on its way.
+/// Request #105: a number, which is there in either case, and whether something was lost on its way.
 #[derive(Clone, Copy)]
 pub struct Traced {
     pub number: Scaled,
     pub lost: bool,
 }
 
-// d.ddd × 10^-power, where digits is dddd.
+/// d.ddd × 10^-power, where digits is dddd.
 #[repr(C)]
 #[derive(Clone, Copy)]
 pub struct Decimal {
@@ -70,12 +70,12 @@ pub struct Decimal {
     pub power: u32,
 }
 
-// -t, for a t that fits.
+// -t, for a t that fits. A function of its own: in place its proof was not found.
 fn negated(t: u32) -> i32
     requires { t < 2 ^ 31 }
     ensures { result ≡ pos 0 -ℤ pos t }
 {
-    0 - (t as i32)
+    -(t as i32)
 }
 
 impl Scaled {
@@ -86,15 +86,17 @@ impl Scaled {
         e: -31,
     };
 
-    // The whole number n, which fits whatever it is.
+    /// The whole number n, which fits whatever it is.
     pub fn whole(n: u32) -> Scaled
         ensures { (result ≡ round false 32 (whole_number n)) × (value result ≈ whole_number n) }
     {
         if n == 0 {
             return Scaled::ZERO;
         }
-        let z = u32::leading_zeros(n);
-        let m = n << z;
-        Scaled { m, e: negated(z) }
+        let z = n.leading_zeros();
+        Scaled {
+            m: n << z,
+            e: negated(z),
+        }
     }
 }

@@ -1,8 +1,8 @@
-// The refusals of both tables of document 01 and of document 02, under the numbers that they have there.
+//! The refusals of both tables of document 01 and of document 02, under the numbers that they have there.
 ghost use Rattle.std.specs.Prelude.{◌≡◌};
 ghost use Rattle.exact.specs.Kinds.{number_of};
 
-// Why a call is refused.
+/// Why a call is refused.
 #[derive(Clone, Copy, Debug, PartialEq, Eq)]
 pub enum Refusal {
     NoKind = 1,

@@ -1,4 +1,4 @@
-// A scaled number as a double, and whether it is 1 or more.
+//! A scaled number as a double, and whether it is 1 or more.
 ghost use Rattle.std.specs.Prelude.{◌≡◌, ◌+◌, ◌≤◌};
 ghost use Rattle.exact.specs.Integer.{pos_part, neg_part};
 ghost use Rattle.exact.specs.Fraction.{whole, at_most};
@@ -17,7 +17,7 @@ fn field(e: i32) -> u32
     (e + 1053) as u32
 }
 
-// The double that is x: the field in its place, from bit 52 on, and m from bit 21 on. m's highest bit is bit 52, so it adds one to the field.
+/// The double that is x: the field in its place, from bit 52 on, and m from bit 21 on. m's highest bit is bit 52, so it adds one to the field.
 #[tactic(auto, using(crate::proofs::Exactly::zero_assembled, crate::proofs::Exactly::field_small, crate::proofs::Exactly::is_double, crate::proofs::Exactly::is_number, exact::proofs::Operations::none))]
 pub fn double_of(x: Scaled) -> f64
     requires { InRange 32 double_range x }
@@ -31,14 +31,11 @@ pub fn double_of(x: Scaled) -> f64
     f64::from_bits(k * 4503599627370496 + q)
 }
 
-// Whether x is 1 or more: m has 32 bits, so it is so where e is above -32.
+/// Whether x is 1 or more: m has 32 bits, so it is so where e is above -32.
 #[tactic(auto, using(crate::proofs::Cases::zero_below, crate::proofs::Cases::one_or_more))]
 pub fn one_or_more(x: Scaled) -> bool
     requires { IsScaled 32 x }
     ensures { result ≡ at_most (whole 1) (value x) }
 {
-    if x.m == 0 {
-        return false;
-    }
-    x.e > -32
+    x.m != 0 && x.e > -32
 }

@@ -1,4 +1,4 @@
-// Request #108 of document 02: both ends of a read as doubles, and the record that the plotting tool stores.
+//! Request #108 of document 02: both ends of a read as doubles, and the record that the plotting tool stores.
 #![tactic(auto)]
 
 ghost use Rattle.std.specs.Prelude.{◌≡◌, Ok};
@@ -24,7 +24,7 @@ pub enum Doubles {
     Unbounded(f64),
 }
 
-// The object number, both ends and their difference.
+/// The object number, both ends and their difference.
 #[repr(C)]
 #[derive(Clone, Copy, Default)]
 pub struct PlotRecord {
@@ -64,7 +64,7 @@ fn record_of(object: u32, d: Doubles) -> Option<PlotRecord>
     }
 }
 
-// Both ends at the session's order, or the lower end alone where the upper end is 1 or more. Refused as 21 or 23.
+/// Both ends at the session's order, or the lower end alone where the upper end is 1 or more. Refused as 21 or 23.
 #[tactic(auto, using(crate::proofs::Listed::host_demands))]
 pub fn read_doubles(s: Session) -> Result<Doubles, Refusal>
     requires { Reached s }
@@ -74,7 +74,7 @@ pub fn read_doubles(s: Session) -> Result<Doubles, Refusal>
     Ok(ends_of(reading(s)?))
 }
 
-// The record at the session's order, or none where the upper end is 1 or more. Refused as 21 or 23.
+/// The record at the session's order, or none where the upper end is 1 or more. Refused as 21 or 23.
 pub fn read_plot_record(s: Session) -> Result<Option<PlotRecord>, Refusal>
     requires { Reached s }
     ensures { (result ≡ plotted s) × Stores (call reads s).answer result }

@@ -1,10 +1,9 @@
-// Ends as doubles, and the record that the plotting tool stores, with their cases as numbers (request #108).
+//! Ends as doubles, and the record that the plotting tool stores, with their cases as numbers (request #108).
 ghost use Rattle.std.specs.Prelude.{◌≡◌};
 ghost use Rattle.jinthuol.specs.Doubles.{doubles_numbers, plotted_numbers};
 
 use crate::{Doubles, Plotted};
 use exact::refusals::Refusal;
-use host;
 use host::PlotRecord;
 
 // The tag: how many ends there are.

@@ -1,5 +1,5 @@
-// The library for programs in other languages: the calls of crate encounter, the advised order, ends as doubles, the week, numbers in decimal, the division by a whole
-// number and the listing of a script, under names of C. Crate jinthuol_c exports them.
+//! The library for programs in other languages: the calls of crate encounter, the advised order, ends as doubles, the week, numbers in decimal, the division by a whole
+//! number and the listing of a script, under names of C. Crate jinthuol_c exports them.
 #![tactic(auto)]
 
 ghost use Rattle.std.specs.Prelude.{◌≡◌};
@@ -35,10 +35,12 @@ use host::{PlotRecord, read_doubles, read_plot_record};
 use listing::script::{put_lines, put_too_long};
 use week::{Ends, empty_week, enter, week_ends};
 
-// The version of the functions below and their structs; bindings/c/jinthuol.h has the same number.
+/// The version of the functions below and their structs; bindings/c/jinthuol.h has the same number.
 pub const VERSION: u32 = 11;
 
-// An answer, with its class as a number.
+// The structs of bindings/c/jinthuol.h: C has no Option and no Result, so a refusal is a number, 0 for none, and a case is a tag.
+
+/// An answer, with its class as a number.
 #[repr(C)]
 #[derive(Clone, Copy)]
 pub struct Answer {
@@ -52,7 +54,7 @@ pub struct Answer {
     pub exact: u32,
 }
 
-// The refusal's number, or 0; then the advised order, or 0 where there is none.
+/// The refusal's number, or 0; then the advised order, or 0 where there is none.
 #[repr(C)]
 #[derive(Clone, Copy)]
 pub struct Advice {
@@ -60,7 +62,7 @@ pub struct Advice {
     pub order: u32,
 }
 
-// The refusal's number, or 0; the tag; then the ends, each 0 where it is not there.
+/// The refusal's number, or 0; the tag; then the ends, each 0 where it is not there.
 #[repr(C)]
 #[derive(Clone, Copy)]
 pub struct Doubles {
@@ -70,7 +72,7 @@ pub struct Doubles {
     pub upper: f64,
 }
 
-// The refusal's number, or 0; the tag; then the record, with 0 in every field where there is none.
+/// The refusal's number, or 0; the tag; then the record, with 0 in every field where there is none.
 #[repr(C)]
 #[derive(Clone, Copy)]
 pub struct Plotted {
@@ -79,7 +81,7 @@ pub struct Plotted {
     pub plot: PlotRecord,
 }
 
-// A place of a week: held is 1 where it has the two ends of a read; in an empty place all is 0.
+/// A place of a week: held is 1 where it has the two ends of a read; in an empty place all is 0.
 #[repr(C)]
 #[derive(Clone, Copy)]
 pub struct Bracket {
@@ -88,21 +90,21 @@ pub struct Bracket {
     pub upper: Scaled,
 }
 
-// The places of a day.
+/// The places of a day.
 #[repr(C)]
 #[derive(Clone, Copy)]
 pub struct Day {
     pub places: [Bracket; PLACES_A_DAY],
 }
 
-// The days of a week: a function for other languages takes and answers no array by value.
+/// The days of a week: a function for other languages takes and answers no array by value.
 #[repr(C)]
 #[derive(Clone, Copy)]
 pub struct Week {
     pub days: [Day; DAYS_A_WEEK],
 }
 
-// The refusal's number, or 0; then the week, which is as it was where it is refused.
+/// The refusal's number, or 0; then the week, which is as it was where it is refused.
 #[repr(C)]
 #[derive(Clone, Copy)]
 pub struct Entered {
@@ -110,7 +112,7 @@ pub struct Entered {
     pub week: Week,
 }
 
-// The refusal's number, or 0; then the quotient, which is zero where it is refused.
+/// The refusal's number, or 0; then the quotient, which is zero where it is refused.
 #[repr(C)]
 #[derive(Clone, Copy)]
 pub struct Divided {
@@ -118,7 +120,7 @@ pub struct Divided {
     pub quotient: Scaled,
 }
 
-// The bytes of the buffer that are used, and whether they are the whole listing.
+/// The bytes of the buffer that are used, and whether they are the whole listing.
 #[repr(C)]
 #[derive(Clone, Copy)]
 pub struct Listing {
@@ -126,7 +128,7 @@ pub struct Listing {
     pub ended: bool,
 }
 
-// The number of a class. No `From`: Rust has none in a crate that has neither of the two types.
+// The number of a class in C. No `From`: Rust has none in a crate that has neither of the two types, and the numbers are of the C interface (`class_number`).
 #[tactic(auto, unfolding(crate::specs::Answer::class_number))]
 fn number(c: Class) -> u32
     ensures { result ≡ class_number c }
@@ -189,7 +191,7 @@ pub fn jinthuol_version() -> u32
     VERSION
 }
 
-// No encounter begun.
+/// No encounter begun.
 pub fn jinthuol_empty() -> Session
     ensures { (result ≡ empty_session) × Reached result }
 {
@@ -224,7 +226,7 @@ pub fn jinthuol_read(session: Session) -> Answer
     Answer::from(calls::read(session))
 }
 
-// The advised order of the session's encounter.
+/// The advised order of the session's encounter.
 pub fn jinthuol_advise(session: Session) -> Advice
     requires { Reached session }
     ensures { (result ≡ advice_numbers (advised session)) × (told result ≡ advised session) }
@@ -232,7 +234,7 @@ pub fn jinthuol_advise(session: Session) -> Advice
     Advice::from(advise(session))
 }
 
-// Both ends as doubles, or the lower end alone where the upper end is 1 or more.
+/// Both ends as doubles, or the lower end alone where the upper end is 1 or more.
 pub fn jinthuol_read_doubles(session: Session) -> Doubles
     requires { Reached session }
     ensures { (result ≡ doubles_numbers (host_doubles session)) × (doubles_told result ≡ host_doubles session) × DoublesSay (call reads session).answer (doubles_told result) }
@@ -240,7 +242,7 @@ pub fn jinthuol_read_doubles(session: Session) -> Doubles
     Doubles::from(read_doubles(session))
 }
 
-// The record that the plotting tool stores, where both ends are there.
+/// The record that the plotting tool stores, where both ends are there.
 pub fn jinthuol_read_plot_record(session: Session) -> Plotted
     requires { Reached session }
     ensures { (result ≡ plotted_numbers (host_plotted session)) × (plotted_told result ≡ host_plotted session) × Stores (call reads session).answer (plotted_told result) }
@@ -248,14 +250,14 @@ pub fn jinthuol_read_plot_record(session: Session) -> Plotted
     Plotted::from(read_plot_record(session))
 }
 
-// A week with nothing in it.
+/// A week with nothing in it.
 pub fn jinthuol_empty_week() -> Week
     ensures { (result ≡ in_days empty_week) × (days_of result ≡ empty_week) × FromCalls (days_of result) }
 {
     days_in(empty_week())
 }
 
-// The week with the two ends of a read of the session in the next empty place of the day.
+/// The week with the two ends of a read of the session in the next empty place of the day.
 pub fn jinthuol_enter(week: Week, day: u32, session: Session) -> Entered
     requires { (FromCalls (days_of week)) × Reached session }
     ensures { (result ≡ entered_as (week_entry (days_of week) day session)) × (days_of result.week ≡ (week_entry (days_of week) day session).week) × FromCalls (days_of result.week) }
@@ -271,7 +273,7 @@ pub fn jinthuol_enter(week: Week, day: u32, session: Session) -> Entered
     }
 }
 
-// The week's two ends.
+/// The week's two ends.
 pub fn jinthuol_week_ends(week: Week) -> Ends
     requires { FromCalls (days_of week) }
     ensures { result ≡ ends_of_week (days_of week) }
@@ -279,21 +281,21 @@ pub fn jinthuol_week_ends(week: Week) -> Ends
     week_ends(arrays_of(week))
 }
 
-// A number in decimal, as a lower end or, where up is true, as an upper one.
+/// A number in decimal, as a lower end or, where up is true, as an upper one.
 pub fn jinthuol_to_decimal(up: bool, number: Scaled) -> Decimal
     ensures { (result ≡ decimal_of up number) × Printed up number result × (Found up number → Near number result) }
 {
     to_decimal(up, number)
 }
 
-// A number divided by a whole number: rounded down or, where up is true, up.
+/// A number divided by a whole number: rounded down or, where up is true, up.
 pub fn jinthuol_divide(up: bool, number: Scaled, divisor: u32) -> Divided
     ensures { (result ≡ divided_numbers (divided up number divisor)) × (divided_told result ≡ divided up number divisor) × Says up number divisor (divided_told result) }
 {
     Divided::from(divide(up, number, divisor))
 }
 
-// The listing of a script, as far as the buffer has room for it.
+/// The listing of a script, as far as the buffer has room for it.
 #[tactic(auto, using(crate::proofs::Running::run_long))]
 pub fn jinthuol_run(script: &[u8], out: &mut [u8]) -> Listing
     ensures { RunOf script.now out.old out.new result }

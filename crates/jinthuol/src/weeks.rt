@@ -1,10 +1,9 @@
-// A week between the array of arrays that crate `week` takes and the struct that programs in other languages have (request #111).
+//! The two directions of one conversion. A week between the array of arrays that crate `week` takes and the struct that programs in other languages have (request #111).
 ghost use Rattle.std.specs.Prelude.{◌≡◌, map};
 ghost use Rattle.jinthuol.specs.Week.{bracket_of, place_in, days_of, in_days};
 
 use crate::{Bracket, Day, Week};
 use exact::Scaled;
-use week;
 use week::Ends;
 
 impl From<Option<Ends>> for Bracket {

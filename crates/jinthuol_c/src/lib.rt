@@ -1,4 +1,5 @@
-// The static library for programs in other languages: the calls of crate jinthuol under their names of C, each with that call's promise.
+//! The static library for programs in other languages: the calls of crate jinthuol under their names of C, each with that call's promise: an export is proved by
+//! its own text, so the clauses stand again.
 #![tactic(auto)]
 
 ghost use Rattle.std.specs.Prelude.{◌≡◌};
@@ -31,7 +32,7 @@ pub extern "C" fn jinthuol_version() -> u32
     jinthuol::jinthuol_version()
 }
 
-// No encounter begun.
+/// No encounter begun.
 #[unsafe(no_mangle)]
 pub extern "C" fn jinthuol_empty() -> Session
     ensures { (result ≡ empty_session) × Reached result }
@@ -74,7 +75,7 @@ pub extern "C" fn jinthuol_read(session: Session) -> Answer
     jinthuol::jinthuol_read(session)
 }
 
-// The advised order of the session's encounter.
+/// The advised order of the session's encounter.
 #[unsafe(no_mangle)]
 pub extern "C" fn jinthuol_advise(session: Session) -> Advice
     requires { Reached session }
@@ -83,7 +84,7 @@ pub extern "C" fn jinthuol_advise(session: Session) -> Advice
     jinthuol::jinthuol_advise(session)
 }
 
-// Both ends as doubles, or the lower end alone where the upper end is 1 or more.
+/// Both ends as doubles, or the lower end alone where the upper end is 1 or more.
 #[unsafe(no_mangle)]
 pub extern "C" fn jinthuol_read_doubles(session: Session) -> Doubles
     requires { Reached session }
@@ -92,7 +93,7 @@ pub extern "C" fn jinthuol_read_doubles(session: Session) -> Doubles
     jinthuol::jinthuol_read_doubles(session)
 }
 
-// The record that the plotting tool stores, where both ends are there.
+/// The record that the plotting tool stores, where both ends are there.
 #[unsafe(no_mangle)]
 pub extern "C" fn jinthuol_read_plot_record(session: Session) -> Plotted
     requires { Reached session }
@@ -101,7 +102,7 @@ pub extern "C" fn jinthuol_read_plot_record(session: Session) -> Plotted
     jinthuol::jinthuol_read_plot_record(session)
 }
 
-// A week with nothing in it.
+/// A week with nothing in it.
 #[unsafe(no_mangle)]
 pub extern "C" fn jinthuol_empty_week() -> Week
     ensures { (result ≡ in_days empty_week) × (days_of result ≡ empty_week) × FromCalls (days_of result) }
@@ -109,7 +110,7 @@ pub extern "C" fn jinthuol_empty_week() -> Week
     jinthuol::jinthuol_empty_week()
 }
 
-// The week with the two ends of a read of the session in the next empty place of the day.
+/// The week with the two ends of a read of the session in the next empty place of the day.
 #[unsafe(no_mangle)]
 pub extern "C" fn jinthuol_enter(week: Week, day: u32, session: Session) -> Entered
     requires { (FromCalls (days_of week)) × Reached session }
@@ -118,7 +119,7 @@ pub extern "C" fn jinthuol_enter(week: Week, day: u32, session: Session) -> Ente
     jinthuol::jinthuol_enter(week, day, session)
 }
 
-// The week's two ends.
+/// The week's two ends.
 #[unsafe(no_mangle)]
 pub extern "C" fn jinthuol_week_ends(week: Week) -> Ends
     requires { FromCalls (days_of week) }
@@ -127,7 +128,7 @@ pub extern "C" fn jinthuol_week_ends(week: Week) -> Ends
     jinthuol::jinthuol_week_ends(week)
 }
 
-// A number in decimal, as a lower end or, where up is true, as an upper one.
+/// A number in decimal, as a lower end or, where up is true, as an upper one.
 #[unsafe(no_mangle)]
 pub extern "C" fn jinthuol_to_decimal(up: bool, number: Scaled) -> Decimal
     ensures { (result ≡ decimal_of up number) × Printed up number result × (Found up number → Near number result) }
@@ -135,7 +136,7 @@ pub extern "C" fn jinthuol_to_decimal(up: bool, number: Scaled) -> Decimal
     jinthuol::jinthuol_to_decimal(up, number)
 }
 
-// A number divided by a whole number: rounded down or, where up is true, up.
+/// A number divided by a whole number: rounded down or, where up is true, up.
 #[unsafe(no_mangle)]
 pub extern "C" fn jinthuol_divide(up: bool, number: Scaled, divisor: u32) -> Divided
     ensures { (result ≡ divided_numbers (divided up number divisor)) × (divided_told result ≡ divided up number divisor) × Says up number divisor (divided_told result) }
@@ -143,7 +144,7 @@ pub extern "C" fn jinthuol_divide(up: bool, number: Scaled, divisor: u32) -> Div
     jinthuol::jinthuol_divide(up, number, divisor)
 }
 
-// The listing of a script, as far as the buffer has room for it.
+/// The listing of a script, as far as the buffer has room for it.
 #[unsafe(no_mangle)]
 pub extern "C" fn jinthuol_run(script: &[u8], out: &mut [u8]) -> Listing
     ensures { RunOf script.now out.old out.new result }

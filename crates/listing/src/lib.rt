@@ -1,4 +1,4 @@
-// The text of a line of a listing, and the listing of a script in pieces.
+//! The text of a line of a listing, and the listing of a script in pieces.
 #![tactic(auto)]
 
 ghost use Rattle.std.specs.Prelude.{◌≡◌, ◌++◌};
@@ -11,7 +11,7 @@ mod text;
 use crate::text::Line;
 use encounter::state::Answer;
 
-// The bytes that a line is given: no line has more.
+/// The bytes that a line is given: no line has more.
 pub const ROOM: usize = 150;
 
 impl Line {
@@ -88,6 +88,7 @@ impl Line {
             self.number(u64::from(a.refusal));
             return;
         }
+        // matched as a byte: by Kind the last arm is of two cases, and its proof was not found
         match kind {
             1 | 4 => self.text(b"begun 1"),
             2 => {
@@ -111,8 +112,8 @@ impl Line {
     }
 }
 
-// The line of a record, from index at on: the offset of its kind byte, that byte and its answer. Answers the index past the line, or at where fewer than
-// ROOM bytes are left.
+/// The line of a record, from index at on: the offset of its kind byte, that byte and its answer. Answers the index past the line, or at where fewer than
+/// ROOM bytes are left: an index and no Option, and any kind byte, as `PutLine` promises it.
 pub fn put_line(out: &mut [u8], at: usize, offset: usize, kind: u8, a: Answer) -> usize
     ensures { PutLine out.old out.new at offset kind a result }
 {

@@ -1,4 +1,4 @@
-// The listing of a script, in pieces.
+//! The listing of a script, in pieces.
 ghost use Rattle.encounter.specs.Calls.{Reached};
 ghost use Rattle.listing.specs.Listing.{PieceOf, is_final, too_long};
 ghost use Rattle.listing.specs.Put.{PutLine};
@@ -6,9 +6,11 @@ ghost use Rattle.std.specs.Prelude.{◌≡◌};
 
 use crate::{ROOM, put_line};
 use encounter::state::{Answer, Session};
+use exact::refusals::Refusal;
 use records::take_record;
 
-// The bytes of the buffer that are used, the next position and the session there, and whether the listing is at its end.
+/// The bytes of the buffer that are used, the next position and the session there, and whether the listing is at its end. All of them are there in either case, as `PieceOf`
+/// names them.
 #[derive(Clone, Copy)]
 pub struct Piece {
     pub used: usize,
@@ -17,7 +19,7 @@ pub struct Piece {
     pub ended: bool,
 }
 
-// Whether the script ends with this answer.
+// Whether the script ends with this answer, whose refusal is a number.
 #[tactic(auto, unfolding(crate::specs::Listing::is_final))]
 fn is_final(a: Answer) -> bool
     ensures { result ≡ is_final a }
@@ -25,7 +27,7 @@ fn is_final(a: Answer) -> bool
     matches!(a.refusal, 1 | 2)
 }
 
-// The lines of the records from a position on, while the buffer has ROOM bytes left.
+/// The lines of the records from a position on, while the buffer has ROOM bytes left.
 #[tactic(auto, using(crate::proofs::Lines::going_start, crate::proofs::Lines::going_full, crate::proofs::Lines::going_end, crate::proofs::Lines::next_is))]
 pub fn put_lines(script: &[u8], at: usize, s: Session, out: &mut [u8]) -> Piece
     requires { Reached s }
@@ -37,6 +39,7 @@ pub fn put_lines(script: &[u8], at: usize, s: Session, out: &mut [u8]) -> Piece
         session: s,
         ended: false,
     };
+    // no iterator: the next position is what the record's call answers
     while piece.next < script.len() {
         if out.len() - piece.used < ROOM {
             return piece;
@@ -54,9 +57,15 @@ pub fn put_lines(script: &[u8], at: usize, s: Session, out: &mut [u8]) -> Piece
     piece
 }
 
-// The line of a script that is too long.
+/// The line of a script that is too long.
 pub fn put_too_long(out: &mut [u8]) -> usize
     ensures { PutLine out.old out.new 0 0 0 too_long result }
 {
-    put_line(out, 0, 0, 0, Answer::refused(8))
+    put_line(
+        out,
+        0,
+        0,
+        0,
+        Answer::refused(u32::from(Refusal::LongScript)),
+    )
 }

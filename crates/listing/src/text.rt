@@ -1,4 +1,4 @@
-// The text of one line, put together from its parts.
+//! The text of one line, put together from its parts.
 ghost use Rattle.std.specs.Prelude.{◌≡◌, ◌≤◌, [], ◌++◌, length};
 ghost use Rattle.exact.specs.Decimals.{decimal_of};
 ghost use Rattle.listing.specs.Line.{number_text, integer, scaled_text, class_text, last_digit, decimal_text, room};
@@ -10,8 +10,8 @@ use encounter::state::Class;
 use exact::Scaled;
 use std::marker::Model;
 
-// The bytes put so far, which is all that a clause sees. Not std's `fmt::Write`: what `write!` writes, its contract does not say. Not an `ArrayVec`: two fields need no
-// further crate below the library.
+/// The bytes put so far, which is all that a clause sees. Each method's premise names its own text. Not std's `fmt::Write`: what `write!` writes, its contract does not
+/// say. Not an `ArrayVec`: two fields need no further crate below the library.
 #[derive(Drop)]
 pub struct Line {
     bytes: [u8; ROOM],
@@ -55,7 +55,7 @@ impl Line {
         self.len = end;
     }
 
-    // The digits of x.
+    /// The digits of x.
     #[tactic(auto, using(crate::proofs::NumberTexts::digits_decimal))]
     pub fn number(&mut self, x: u64)
         requires { RoomFor self.old (number_text x) }
@@ -66,7 +66,7 @@ impl Line {
         self.text(&digits[..n]);
     }
 
-    // e, with a minus sign where it is negative.
+    /// e, with a minus sign where it is negative.
     #[tactic(auto, unfolding(crate::specs::Line::integer))]
     pub fn integer(&mut self, e: i32)
         requires { RoomFor self.old (integer e) }
@@ -78,7 +78,7 @@ impl Line {
         self.number(u64::from(e.unsigned_abs()));
     }
 
-    // m and e.
+    /// m and e.
     #[tactic(auto, using(crate::proofs::Putting::joined), unfolding(crate::specs::Line::scaled_text))]
     pub fn scaled(&mut self, x: Scaled)
         requires { RoomFor self.old (scaled_text x) }
@@ -101,7 +101,7 @@ impl Line {
         });
     }
 
-    // x in decimal, as a lower end or, where up is true, as an upper one.
+    /// x in decimal, as a lower end or, where up is true, as an upper one.
     #[tactic(auto, using(crate::proofs::EndsInDecimal::nine), unfolding(crate::specs::Line::decimal_text))]
     pub fn decimal(&mut self, up: bool, x: Scaled)
         requires { RoomFor self.old (decimal_text (decimal_of up x)) }

@@ -1,4 +1,4 @@
-// Little-endian numbers of a record's body.
+//! Little-endian numbers of a record's body, of two widths and a signed one: a const parameter would be no plainer for two.
 ghost use Rattle.std.specs.Prelude.{◌≡◌, ◌+◌, ◌≤◌, length};
 ghost use Rattle.exact.specs.Records.{u16_at, u32_at, signed};
 

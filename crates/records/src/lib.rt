@@ -1,4 +1,4 @@
-// The call of a script's record.
+//! The call of a script's record.
 #![tactic(auto)]
 
 ghost use Rattle.std.specs.Prelude.{◌≡◌, ◌≤◌, length, MatchResult};
@@ -18,7 +18,7 @@ use exact::kinds::Kind;
 use exact::refusals::Refusal;
 use exact::{Conjunction, Encounter};
 
-// What a record's call answers, the position of the next record, and the session after it.
+/// What a record's call answers, the position of the next record, and the session after it; after refusal 1 or 2 the record's own position, as `record_call` has it.
 #[derive(Clone, Copy)]
 pub struct Taken {
     pub answer: Answer,
@@ -78,7 +78,7 @@ impl Taken {
     }
 }
 
-// The call that the record at a position asks for. After refusal 1 or 2 `next` is that position itself: the script ends there. The script is lent for reading only.
+/// The call that the record at a position asks for. After refusal 1 or 2 `next` is that position itself: the script ends there. The script is lent for reading only.
 #[tactic(auto, using(crate::proofs::Requests::stopped, crate::proofs::Requests::taken), unfolding(exact::specs::Records::body_length, exact::specs::Records::request_of))]
 pub fn take_record(s: Session, script: &[u8], at: usize) -> Taken
     requires { Reached s }

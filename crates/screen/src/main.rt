@@ -1,4 +1,4 @@
-// screen: runs a script from standard input and writes what document 01 says of it.
+//! screen: runs a script from standard input and writes what document 01 says of it.
 #![tactic(auto)]
 
 ghost use Rattle.std.specs.Prelude.{OnOk, IfSome};
@@ -48,6 +48,7 @@ fn run<W: Write>(output: &mut W, script: &[u8]) -> io::Result<usize>
     let mut session = Session::empty();
     let mut at = 0;
     let mut done = 0;
+    // a piece says whether it is the last
     loop {
         let piece = put_piece(script, at, session, &mut out);
         output.write_all(&out[..piece.used])?;

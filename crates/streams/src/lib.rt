@@ -1,4 +1,4 @@
-// A script from standard input.
+//! A script from standard input.
 #![tactic(auto)]
 
 ghost use Rattle.streams.specs.Reading.{AllBytes, NextBytes, ReadInto, ScriptIn};
@@ -7,7 +7,7 @@ use exact::LARGEST_SCRIPT;
 use std::io;
 use std::io::{ErrorKind, Read};
 
-// The bytes kept for a script: one more than it may have, so that a script that fills them is too long.
+/// The bytes kept for a script: one more than it may have, so that a script that fills them is too long.
 pub const KEPT: usize = LARGEST_SCRIPT + 1;
 
 // How many times a read that is interrupted is tried, so that reading ends whatever the input does.
@@ -27,13 +27,14 @@ fn read_some<R: Read>(input: &mut R, buf: &mut [u8]) -> io::Result<usize>
     Err(ErrorKind::Interrupted.into())
 }
 
-// Reads the script: up to the end of the input, or until the buffer is full. Answers how many bytes it has, and not the part of the buffer that it fills, since
-// the promises are about the buffer after the call.
+/// Reads the script: up to the end of the input, or until the buffer is full. Answers how many bytes it has, and not the part of the buffer that it fills, since
+/// the promises are about the buffer after the call.
 pub fn read_script<R: Read>(input: &mut R, buf: &mut [u8; KEPT]) -> io::Result<usize>
     ensures within { ScriptIn buf.new result }
     ensures bytes { AllBytes (R.remaining input.old) (R.remaining input.new) buf.new result }
 {
     let mut done = 0;
+    // `read_exact` says nothing of an input that ends early, and `read_to_end` needs a heap
     while done < KEPT {
         match read_some(input, &mut buf[done..])? {
             0 => break,

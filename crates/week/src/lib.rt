@@ -1,4 +1,4 @@
-// Request #111 of document 02: a week of seven days of eight places, each empty or with the two ends of a read, and one figure for it.
+//! Request #111 of document 02: a week of seven days of eight places, each empty or with the two ends of a read, and one figure for it.
 #![tactic(auto)]
 
 ghost use Rattle.std.specs.Prelude.{◌≡◌, IfOk, position, is_none, fold, filter_map, flat_map};
@@ -14,7 +14,7 @@ use encounter::sums::{greater, sum};
 use exact::refusals::Refusal;
 use exact::{DAYS_A_WEEK, PLACES_A_DAY, Scaled};
 
-// Two ends: of a read, or of a week.
+/// Two ends: of a read, or of a week.
 #[repr(C)]
 #[derive(Clone, Copy)]
 pub struct Ends {
@@ -22,12 +22,13 @@ pub struct Ends {
     pub upper: Scaled,
 }
 
-// The places of a day: a place is empty or has the two ends of a read.
+/// The places of a day: a place is empty or has the two ends of a read.
 pub type Day = [Option<Ends>; PLACES_A_DAY];
 
+/// Arrays by value, as the papers name it, so `FromCalls` is a premise and no invariant.
 pub type Week = [Day; DAYS_A_WEEK];
 
-// A week with nothing in it.
+/// A week with nothing in it.
 pub fn empty_week() -> Week
     ensures { (result ≡ empty_week) × FromCalls result }
 {
@@ -52,7 +53,7 @@ fn next_place(day: &Day) -> Option<usize>
     day.iter().position(|place| place.is_none())
 }
 
-// The week with the two ends of a read of the session in the next empty place of the day: refused as 13, then as the read is, as 21 or 23, then as 24.
+/// The week with the two ends of a read of the session in the next empty place of the day: refused as 13, then as the read is, as 21 or 23, then as 24.
 pub fn enter(mut week: Week, day: u32, s: Session) -> Result<Week, Refusal>
     requires { (FromCalls week) × Reached s }
     ensures { (entry_of week result ≡ enter week day s) × IfOk result FromCalls }
@@ -93,7 +94,7 @@ fn gathered(week: &Week) -> Ends
         .fold(nothing, Ends::with)
 }
 
-// The greatest lower end held, and the upper ends added up; zero for both where nothing is held.
+/// The greatest lower end held, and the upper ends added up; zero for both where nothing is held.
 pub fn week_ends(week: Week) -> Ends
     requires { FromCalls week }
     ensures value { result ≡ week_ends week }

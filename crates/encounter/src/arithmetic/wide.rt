@@ -1,4 +1,6 @@
-// The arithmetic on scaled numbers in two machine words, by functions, as `Scaled` and `Traced` can have no methods here: each operation answers D (up is false) or U (up is true) of the exact value, and whether it lost anything.
+//! The arithmetic on scaled numbers in two machine words: each operation answers D (up is false) or U (up is true) of the exact value, and whether it lost anything.
+//! Bounds of exponents are premises, and no invariant of a type: callers have 177, 387, 400 and others, and a result has a wider one than its operands. `as` stands where
+//! a premise rules out a loss; a `try_from` would add a test.
 ghost use Rattle.std.specs.Prelude.{◌≡◌, false, ◌/◌, ◌%◌, ◌^◌, ◌≤◌, ◌<◌, min, ltb, ◌-ℤ◌, ◌≤ℤ◌};
 ghost use Rattle.exact.specs.Fraction.{◌⊕◌, ◌⊗◌, ◌÷◌, ◌⊘◌, at_most};
 ghost use Rattle.exact.specs.Integer.{pos_part, neg_part};
@@ -9,14 +11,14 @@ ghost use Rattle.encounter.specs.Private.Loops.{narrow, IsWhole, Rounds, IsRecip
 use crate::arithmetic::rounding::{Whole, bits, divided, fit, followed};
 use exact::{Scaled, Traced};
 
-// m × 2^e.
+/// m × 2^e.
 #[derive(Clone, Copy)]
 pub struct Wide {
     pub m: u64,
     pub e: i64,
 }
 
-// A rounded number, and whether its rounding lost anything (request #105). Not generic with `Whole` and `Traced`: the flags mean different things.
+/// A rounded number, and whether its rounding lost anything (request #105). Not generic with `Whole` and `Traced`: the flags mean different things.
 #[derive(Clone, Copy)]
 pub struct Rounded {
     pub number: Wide,
@@ -35,7 +37,7 @@ impl From<Scaled> for Wide {
 }
 
 impl Wide {
-    // Not a From: it has a premise.
+    /// Not a From: it has a premise.
     pub fn narrowed(self) -> Scaled
         requires { InRange 32 (2 ^ 30) (narrow self) }
         ensures { result ≡ narrow self }
@@ -69,7 +71,7 @@ impl Rounded {
     }
 }
 
-// a × b.
+/// a × b.
 pub fn product(up: bool, a: Wide, b: Wide) -> Rounded
     requires { (InRange 32 (2 ^ 28) (narrow a)) × (InRange 32 (2 ^ 28) (narrow b)) }
     ensures { Rounds up (value (narrow a) ⊗ value (narrow b)) result }
@@ -113,7 +115,7 @@ fn aligned(up: bool, a: Wide, b: Wide) -> Rounded
     )
 }
 
-// a + b.
+/// a + b.
 pub fn sum(up: bool, a: Wide, b: Wide) -> Rounded
     requires { (InRange 32 (2 ^ 28) (narrow a)) × (InRange 32 (2 ^ 28) (narrow b)) }
     ensures { Rounds up (value (narrow a) ⊕ value (narrow b)) result }
@@ -131,7 +133,7 @@ pub fn sum(up: bool, a: Wide, b: Wide) -> Rounded
     }
 }
 
-// a / k: followed by as many zeros as k has bits, a's mantissa has a quotient of 32 or 33 bits.
+/// a / k: followed by as many zeros as k has bits, a's mantissa has a quotient of 32 or 33 bits.
 pub fn over(up: bool, a: Wide, k: u64) -> Rounded
     requires { (InRange 32 (2 ^ 28) (narrow a)) × (0 < k) × (k < 2 ^ 32) }
     ensures { Rounds up (value (narrow a) ÷ k) result }
@@ -143,7 +145,7 @@ pub fn over(up: bool, a: Wide, k: u64) -> Rounded
     fit(up, divided(up, followed(a.m, t), k), a.e - t as i64)
 }
 
-// What a division by k has in common with every other by k.
+/// What a division by k has in common with every other by k.
 #[derive(Clone, Copy)]
 pub struct Reciprocal {
     pub k: u64,
@@ -165,7 +167,7 @@ impl Reciprocal {
     }
 }
 
-// a / k, by the reciprocal of k.
+/// a / k, by the reciprocal of k.
 pub fn over_by(up: bool, a: Wide, by: Reciprocal) -> Rounded
     requires { (InRange 32 (2 ^ 28) (narrow a)) × IsReciprocal by }
     ensures { Rounds up (value (narrow a) ÷ by.k) result }
@@ -177,7 +179,7 @@ pub fn over_by(up: bool, a: Wide, by: Reciprocal) -> Rounded
     fit(up, divided(up, h, 2147483648), a.e - by.bits as i64)
 }
 
-// a / 2^k, exactly.
+/// a / 2^k, exactly.
 pub fn moved(a: Wide, k: i64) -> Wide
     requires { (InRange 32 (2 ^ 28) (narrow a)) × (pos_part k ≤ 2 ^ 28) × (neg_part k ≤ 2 ^ 28) }
     ensures { narrow result ≡ with_exponent (narrow a) (a.e -ℤ k) }
@@ -188,7 +190,7 @@ pub fn moved(a: Wide, k: i64) -> Wide
     Wide { m: a.m, e: a.e - k }
 }
 
-// a / 2, exactly.
+/// a / 2, exactly.
 pub fn halved(a: Wide) -> Wide
     requires { InRange 32 (2 ^ 28) (narrow a) }
     ensures { narrow result ≡ half (narrow a) }
@@ -196,7 +198,7 @@ pub fn halved(a: Wide) -> Wide
     moved(a, 1)
 }
 
-// a / b, where b is not zero: by b's mantissa, which has 32 bits.
+/// a / b, where b is not zero: by b's mantissa, which has 32 bits.
 pub fn quotient(up: bool, a: Wide, b: Wide) -> Rounded
     requires { (InRange 32 (2 ^ 28) (narrow a)) × (InRange 32 (2 ^ 28) (narrow b)) × (Normal 32 (narrow b)) }
     ensures { Rounds up (value (narrow a) ⊘ value (narrow b)) result }
@@ -207,7 +209,7 @@ pub fn quotient(up: bool, a: Wide, b: Wide) -> Rounded
     fit(up, divided(up, followed(a.m, 32), b.m), a.e - b.e - 32)
 }
 
-// Whether a is at most b.
+/// Whether a is at most b. Not `Ord`: zero has e = 0, so the order is not that of the fields.
 pub fn at_most(a: Wide, b: Wide) -> bool
     requires { (InRange 32 (2 ^ 28) (narrow a)) × (InRange 32 (2 ^ 28) (narrow b)) }
     ensures { result ≡ at_most (value (narrow a)) (value (narrow b)) }

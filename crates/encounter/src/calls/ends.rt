@@ -1,4 +1,4 @@
-// The two ends of a session's bracket, its class, and test 23.
+//! The two ends of a session's bracket, its class, and test 23.
 ghost use Rattle.std.specs.Prelude.{◌≡◌, not, ◌^◌};
 ghost use Rattle.exact.specs.Private.Ranges.{InRange};
 ghost use Rattle.exact.specs.Steps.{lower_end, upper_end};
@@ -11,6 +11,7 @@ use crate::calls::tests::passes_test_23;
 use crate::state::{Class, Session};
 use exact::Scaled;
 
+/// The lower sum over the upper exponential with its tail. The two ends have different sums and tails, so they are two functions.
 pub fn lower_end(s: Session) -> Scaled
     requires { Begun s }
     ensures { result ≡ lower_end s.encounter s.N }
@@ -19,6 +20,7 @@ pub fn lower_end(s: Session) -> Scaled
     quotient(false, s.lower.terms.sum, under.number).number
 }
 
+/// The upper sum with its tail over the lower exponential.
 pub fn upper_end(s: Session) -> Scaled
     requires { Begun s }
     ensures { result ≡ upper_end s.encounter s.N }
@@ -33,7 +35,7 @@ const THRESHOLD: Scaled = Scaled {
     e: -45,
 };
 
-// The class: alert by the lower end, clear by the upper, otherwise open.
+/// The class: alert by the lower end, clear by the upper, otherwise open.
 #[tactic(auto, using(crate::proofs::calls::Threshold::tells_alert, crate::proofs::calls::Threshold::tells_open, crate::proofs::calls::Threshold::tells_clear))]
 pub fn classify(lower: Scaled, upper: Scaled) -> Class
     requires { (InRange 32 (2 ^ 28) lower) × (InRange 32 (2 ^ 28) upper) }
@@ -48,7 +50,7 @@ pub fn classify(lower: Scaled, upper: Scaled) -> Class
     }
 }
 
-// Whether test 23 passes.
+/// Whether test 23 passes.
 pub fn may_read(s: Session) -> bool
     requires { Begun s }
     ensures { result ≡ not (refuses_23 s.encounter s.N) }

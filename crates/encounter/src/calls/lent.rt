@@ -1,5 +1,5 @@
-// The calls on a session that the caller lends: each reads it whole, makes the call by value, and stores it whole. No function over the call: each closure would have
-// to say again what its call promises.
+//! The calls on a session that the caller lends: each reads it whole, makes the call by value, and stores it whole. No function over the call: each closure would have
+//! to say again what its call promises.
 ghost use Rattle.std.specs.Prelude.{◌≡◌};
 ghost use Rattle.encounter.specs.Calls.{begins, begins_conjunction, adds, call, Reached};
 

@@ -1,4 +1,4 @@
-// The session of an accepted encounter at order 1, without object and time.
+//! The session of an accepted encounter at order 1, without object and time.
 ghost use Rattle.std.specs.Prelude.{◌≡◌, true, false};
 ghost use Rattle.exact.specs.Private.Ranges.{Bounds};
 ghost use Rattle.exact.specs.Refusals.{Accepted};
@@ -31,7 +31,7 @@ fn open_side(up: bool, E: Encounter, l: LetterSet<Traced>, exponential: Scaled) 
     (side, losses_at(l, s))
 }
 
-// From both sides' letters and M. The upper letters and M were formed for tests 7 and 11.
+/// From both sides' letters and M. The upper letters and M were formed for tests 7 and 11.
 pub fn opened(
     E: Encounter,
     below: LetterSet<Traced>,

@@ -1,10 +1,10 @@
-// The powers of ten from 10^0 to 10^46, each rounded down and rounded up.
+//! The powers of ten from 10^0 to 10^46, each rounded down and rounded up: constant arrays, as the papers name them.
 ghost use Rattle.std.specs.Prelude.{◌≡◌, ◌<◌};
 ghost use Rattle.exact.specs.Decimals.{table_length, entry};
 
 use exact::Scaled;
 
-// How many entries the table has.
+/// How many entries the table has.
 pub const POWERS: usize = 47;
 
 // D(10^k).
@@ -391,7 +391,7 @@ const UPPER: [Scaled; POWERS] = [
     },
 ];
 
-// D(10^k), or U(10^k) where up is true.
+/// D(10^k), or U(10^k) where up is true.
 pub fn power_of_ten(up: bool, k: usize) -> Scaled
     requires { k < table_length }
     ensures { result ≡ entry up k }

@@ -1,4 +1,4 @@
-// The count of exact terms, taken on term by term while nothing is lost (request #105 of document 02).
+//! The count of exact terms, taken on term by term while nothing is lost (request #105 of document 02).
 ghost use Rattle.std.specs.Prelude.{◌≡◌, suc, ◌+◌, ◌≤◌, ◌<◌};
 ghost use Rattle.exact.specs.Numbers.{largest_order};
 ghost use Rattle.encounter.specs.Private.Held.{counts, counting, Begun};
@@ -6,7 +6,7 @@ ghost use Rattle.encounter.specs.Private.Held.{counts, counting, Begun};
 use crate::state::{Session, Terms};
 use crate::steps::losses::{either_side, side_step};
 
-// How many of the first terms are exact, and 1 where nothing was lost on the way to what the next term is formed of, else 0: a number, as in a session, whose layout C has.
+/// How many of the first terms are exact, and 1 where nothing was lost on the way to what the next term is formed of, else 0: a number, as in a session, whose layout C has.
 #[derive(Clone, Copy)]
 pub struct Counts {
     pub exact: u32,
@@ -40,7 +40,7 @@ fn next_counting(s: Session, w: Counting, n: u64) -> Counting
     }
 }
 
-// The counts `count` terms on.
+/// The counts `count` terms on.
 pub fn counts_after(s: Session, count: u32) -> Counts
     requires { (Begun s) × (s.N + count ≤ largest_order) }
     ensures { result ≡ counts s.encounter (s.N + count) }
@@ -53,6 +53,7 @@ pub fn counts_after(s: Session, count: u32) -> Counts
             lossless: s.lossless,
         },
     };
+    // `u64::from` was tried: the proof has then to tie its result back
     let first = (s.N - 1) as u64;
     let limit = (s.N + count - 1) as u64;
     for n in first..limit {

@@ -1,4 +1,4 @@
-// One side's letters, and the rounded c(0), each with whether something was lost on its way; and M.
+//! One side's letters, and the rounded c(0), each with whether something was lost on its way; and M.
 ghost use Rattle.std.specs.Prelude.{◌≡◌, true, ◌-◌, ◌*◌, ◌≤◌, ◌<◌};
 ghost use Rattle.exact.specs.Fraction.{◌over◌};
 ghost use Rattle.exact.specs.Numbers.{largest_length};
@@ -42,7 +42,7 @@ fn excess(up: bool, sx: u32, sy: u32) -> Traced
     ratio(up, xx - yy, xx)
 }
 
-// c(0).
+/// c(0). `Bounds` is a premise of four private functions: `Encounter` is C's, and a type of its own would be unpacked in each.
 pub fn start(up: bool, E: Encounter) -> Traced
     requires { Bounds E }
     ensures { result ≡ start_of (traced up 32) E }
@@ -87,7 +87,7 @@ pub fn letters(up: bool, E: Encounter) -> LetterSet<Traced>
     }
 }
 
-// M.
+/// M.
 pub fn bound(l: Letters) -> Scaled
     requires { LettersIn (step_letters l) }
     ensures { result ≡ bound_of (rounded true 32) (step_letters l) }

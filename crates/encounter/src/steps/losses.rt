@@ -1,4 +1,4 @@
-// What is lost on the way to a term (request #105 of document 02): one side's letters and terms, each with whether something was lost on its way.
+//! What is lost on the way to a term (request #105 of document 02): one side's letters and terms, each with whether something was lost on its way.
 ghost use Rattle.std.specs.Prelude.{◌≡◌, ◌||◌, ◌^◌, ◌<◌, ◌≤◌};
 ghost use Rattle.exact.specs.Arithmetic.{rounded, traced};
 ghost use Rattle.exact.specs.Losses.{letter_numbers, term_numbers, operand_lost};
@@ -15,7 +15,7 @@ use crate::steps::numbers::{LetterSet, Operations, TermSet};
 use crate::steps::terms::next_terms;
 use exact::Traced;
 
-// One side's operations, with losses: D where up is false, U where up is true.
+/// One side's operations, with losses: D where up is false, U where up is true.
 #[derive(Clone, Copy)]
 pub struct OneSide {
     pub up: bool,
@@ -61,7 +61,7 @@ impl Operations for OneSide {
     }
 }
 
-// The letters without their losses.
+/// The letters without their losses.
 pub fn letter_numbers(l: LetterSet<Traced>) -> Letters
     ensures { result ≡ held_letters (letter_numbers (set_letters l)) }
 {
@@ -74,7 +74,7 @@ pub fn letter_numbers(l: LetterSet<Traced>) -> Letters
     }
 }
 
-// The terms without their losses.
+/// The terms without their losses.
 pub fn term_numbers(s: TermSet<Traced>) -> Terms
     ensures { result ≡ held_terms (term_numbers (set_terms s)) }
 {
@@ -113,7 +113,7 @@ fn clean_terms(s: Terms) -> TermSet<Traced>
     }
 }
 
-// A side's terms of index 0.
+/// A side's terms of index 0.
 pub fn first_terms(up: bool, l: LetterSet<Traced>, start: Traced) -> TermSet<Traced>
     requires { (InRange 32 177 l.u.number) × (InRange 32 177 start.number) }
     ensures { set_terms result ≡ first (traced up 32) (set_letters l) start }
@@ -127,14 +127,14 @@ pub fn first_terms(up: bool, l: LetterSet<Traced>, start: Traced) -> TermSet<Tra
     }
 }
 
-// Whether something was lost on the way to a term, and whether it was on the way to what the next term is formed of.
+/// Whether something was lost on the way to a term, and whether it was on the way to what the next term is formed of.
 #[derive(Clone, Copy)]
 pub struct Losses {
     pub term: bool,
     pub operand: bool,
 }
 
-// A side's losses, at the index of s.
+/// A side's losses, at the index of s.
 pub fn losses_at(l: LetterSet<Traced>, s: TermSet<Traced>) -> Losses
     ensures { (result.term ≡ (set_terms s).c.lost) × (result.operand ≡ operand_lost (set_letters l) (set_terms s)) }
 {
@@ -144,7 +144,7 @@ pub fn losses_at(l: LetterSet<Traced>, s: TermSet<Traced>) -> Losses
     }
 }
 
-// Both sides' losses.
+/// Both sides' losses.
 pub fn either_side(below: Losses, above: Losses) -> Losses
     ensures { (result.term ≡ (below.term || above.term)) × (result.operand ≡ (below.operand || above.operand)) }
 {
@@ -154,7 +154,7 @@ pub fn either_side(below: Losses, above: Losses) -> Losses
     }
 }
 
-// A side's terms one index on, without their losses, and what is lost there, where nothing was lost before.
+/// A side's terms one index on, without their losses, and what is lost there, where nothing was lost before.
 pub fn side_step(up: bool, l: Letters, s: Terms, n: u64) -> (Terms, Losses)
     requires { (n < largest_order) × (LettersIn (step_letters l)) × (TermsIn largest_exponent (step_terms s)) }
     ensures { (result.0 ≡ held_terms (next (rounded up 32) (step_letters l) n (step_terms s))) × CleanLosses up (step_letters l) (step_terms s) n result.1 }

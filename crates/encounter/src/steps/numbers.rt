@@ -1,10 +1,10 @@
-// What the steps are formed of, whatever the numbers: letters, terms and operations. The numbers are one side's with their losses (`Traced`, losses.rt) or both
-// sides' (`Pair`, sides.rt).
+//! What the steps are formed of, whatever the numbers: letters, terms and operations. The numbers are one side's with their losses (`Traced`, losses.rt) or both
+//! sides' (`Pair`, sides.rt).
 ghost use Rattle.std.specs.Prelude.{◌≡◌, ℕ, ◌^◌, ◌≤◌, ◌<◌};
 ghost use Rattle.exact.specs.Arithmetic.{Arithmetic};
 ghost use Rattle.exact.proofs.Growth.{Keeps};
 
-// A side's letters. What converts letters or terms is a struct literal: a `map` over a closure would need a clause for each of its five calls.
+/// A side's letters. The conversions of letters and of terms are written out: a `map` over a closure would need a clause for each of its five calls.
 #[derive(Clone, Copy)]
 pub struct LetterSet<T> {
     pub u: T,
@@ -14,7 +14,7 @@ pub struct LetterSet<T> {
     pub t: T,
 }
 
-// c, p, v and y of one index, and the sum to there.
+/// c, p, v and y of one index, and the sum to there.
 #[derive(Clone, Copy)]
 pub struct TermSet<T> {
     pub c: T,
@@ -24,7 +24,7 @@ pub struct TermSet<T> {
     pub sum: T,
 }
 
-// The operations of an arithmetic, on numbers whose exponents are within 2^28.
+/// The operations of an arithmetic, on numbers whose exponents are within 2^28.
 pub trait Operations: Copy {
     type Number: Copy;
 

@@ -1,4 +1,4 @@
-// The exponentials of both sides, round by round.
+//! The exponentials of both sides, round by round.
 ghost use Rattle.std.specs.Prelude.{◌≡◌, Bool, true, false, suc, pred, ◌<◌};
 ghost use Rattle.exact.specs.declared.Encounter.{Encounter};
 ghost use Rattle.exact.specs.Numbers.{exponential_cut};
@@ -22,7 +22,8 @@ fn next_r(t: Pair, r: Pair, k: u64) -> Pair
     BothSides.over(BothSides.product(r, t), k + 1)
 }
 
-// One round (request #102 of document 02): r and the sum of both sides, from an encounter's numbers at k to the same encounter's at k + 1.
+// No struct with the encounter as a ghost field: it was proved, and a begin took 1.18 to 1.26 times as long (docs/DECISIONS.md). One round (request #102 of document 02):
+// r and the sum of both sides, from an encounter's numbers at k to the same encounter's at k + 1.
 fn one_round(t: Pair, w: PowerPairs, k: u64) -> PowerPairs
     requires { (k < exponential_cut) × ((E : Encounter) × PowersAt E k t w) }
     ensures { (E : Encounter) → PowersAt E k t w → PowersAt E (suc k) t result }
@@ -44,7 +45,7 @@ fn rounds(t: Pair, first: PowerPairs) -> PowerPairs
     w
 }
 
-// Both exponential sums, and the upper r(256).
+/// Both exponential sums, and the upper r(256).
 #[derive(Clone, Copy)]
 pub struct Exponentials {
     pub lower: Scaled,
@@ -52,8 +53,8 @@ pub struct Exponentials {
     pub r256: Scaled,
 }
 
-// From both sides' t. The last round is for r(256) alone; it stands apart, since a round that is called at one place is compiled into its loop, and a begin then
-// takes longer.
+/// From both sides' t. The last round is for r(256) alone; it stands apart, since a round that is called at one place is compiled into its loop, and a begin then
+/// takes longer.
 pub fn exponential_sums(a: Scaled, b: Scaled) -> Exponentials
     requires { (E : Encounter) × HasT E a b }
     ensures { (E : Encounter) → HasT E a b → (result.lower ≡ exponential_sum false E) × (result.upper ≡ exponential_sum true E) × (result.r256 ≡ r256_of E) }

@@ -1,4 +1,4 @@
-// Both sides' terms and the upper d, taken on term by term.
+//! Both sides' terms and the upper d, taken on term by term.
 ghost use Rattle.std.specs.Prelude.{◌≡◌, true, false, ◌+◌, ◌-◌, ◌≤◌};
 ghost use Rattle.exact.specs.Numbers.{largest_order};
 ghost use Rattle.encounter.specs.Private.Held.{progress, Begun};
@@ -9,7 +9,7 @@ use crate::steps::sides::{BothSides, letter_pairs, side_terms, term_pairs};
 use crate::steps::terms::{next_tail, next_terms};
 use exact::Scaled;
 
-// What the terms of an add change.
+/// What the terms of an add change.
 #[derive(Clone, Copy)]
 pub struct Progress {
     pub lower: Terms,
@@ -17,7 +17,7 @@ pub struct Progress {
     pub d: Scaled,
 }
 
-// `count` terms more.
+/// `count` terms more.
 pub fn advance(s: Session, count: u32) -> Progress
     requires { (Begun s) × (s.N + count ≤ largest_order) }
     ensures { result ≡ progress s.encounter (s.N + count - 1) }

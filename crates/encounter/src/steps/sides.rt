@@ -1,4 +1,4 @@
-// Both sides' numbers together, each operation D on the lower side and U on the upper.
+//! Both sides' numbers together, each operation D on the lower side and U on the upper.
 ghost use Rattle.std.specs.Prelude.{◌≡◌, true, false, ◌^◌};
 ghost use Rattle.exact.specs.Private.Ranges.{largest_exponent, InRange, TermsIn};
 ghost use Rattle.encounter.specs.Private.Held.{step_letters, step_terms, held_terms};
@@ -16,7 +16,7 @@ pub struct Pair {
     pub upper: Wide,
 }
 
-// r(k), and the sum of r(0) to r(k).
+/// r(k), and the sum of r(0) to r(k).
 #[derive(Clone, Copy)]
 pub struct PowerPairs {
     pub r: Pair,
@@ -80,7 +80,7 @@ pub fn side_terms(up: bool, s: TermSet<Pair>) -> Terms
     }
 }
 
-// Both sides' operations: D on the lower side, U on the upper.
+/// Both sides' operations: D on the lower side, U on the upper.
 #[derive(Clone, Copy)]
 pub struct BothSides;
 

@@ -1,4 +1,4 @@
-// A term more, of one side with its losses or of both sides; and the upper tail term d.
+//! A term more, of one side with its losses or of both sides; and the upper tail term d.
 ghost use Rattle.std.specs.Prelude.{◌≡◌, true, ◌+◌, ◌*◌, ◌≤◌, ◌<◌};
 ghost use Rattle.exact.specs.Numbers.{largest_order};
 ghost use Rattle.exact.specs.Arithmetic.{rounded};
@@ -28,7 +28,7 @@ fn next_term<A: Operations>(
     x.over(all, (n + 1) * (n + 2))
 }
 
-// The terms of index n + 1 from those of index n.
+/// The terms of index n + 1 from those of index n.
 pub fn next_terms<A: Operations>(
     x: A,
     l: LetterSet<A::Number>,
@@ -54,7 +54,7 @@ pub fn next_terms<A: Operations>(
     }
 }
 
-// d(n + 1) from d(n).
+/// d(n + 1) from d(n).
 pub fn next_tail(M: Wide, d: Wide, n: u64) -> Wide
     requires { (n ≤ largest_order) × (InRange 32 400 (narrow M)) × (InRange 32 largest_exponent (narrow d)) }
     ensures { narrow result ≡ next_d (rounded true 32) (narrow M) n (narrow d) }
@@ -63,7 +63,7 @@ pub fn next_tail(M: Wide, d: Wide, n: u64) -> Wide
     over(true, x, n + 2).number
 }
 
-// d(1) from d(0), which is c(0).
+/// d(1) from d(0), which is c(0).
 pub fn first_tail(M: Scaled, c: Scaled) -> Scaled
     requires { (InRange 32 400 M) × (InRange 32 177 c) }
     ensures { result ≡ next_d (rounded true 32) M 0 c }

@@ -1,4 +1,4 @@
-use mathlib.Core.Path.{◌≡◌}
+use mathlib.Core.Path.{◌≡◌, ◌∙◌}
 use mathlib.Core.Logic.{inr}
 use Prim.Native.Nat.{ℕ, ◌+◌, ◌*◌, ◌^◌, ◌<◌}
 use native.Mathlib.Nat.{mod-eq_of_lt}
@@ -12,7 +12,7 @@ use mir.Syntax.{w32, w64}
 use mir.Val.{SFits}
 use Rattle.exact.specs.Scaled.{scaled, Normal}
 use Rattle.exact.proofs.Bits.{leading_size, size_pos}
-use Rattle.exact.proofs.Signed.{back_in, longer, pos_fits, neg_fits}
+use Rattle.exact.proofs.Signed.{fits as fits_in, diff_fits_in, longer, pos_fits, neg_fits}
 use Rattle.exact.proofs.Integers.{pos_diff, neg_diff}
 use Rattle.exact.proofs.Operations.{whole_normal, shift_same}
 use Rattle.encounter.proofs.decimals.normal.Goals as goal
@@ -37,7 +37,11 @@ returns c =
     let e = a.e -ℤ pos (count_leading_zeros 32 a.m) in
     let n = full a.m some fits e in
     let l = few a.m some fits in
-    rw (c.from.ensures, mod-eq_of_lt n.high, back_in w64 c.lowered.result c.lowered.type_inv, c.lowered.ensures, c.from-3.ensures, c.from-2.ensures, to_z-of_z {w = w32} h, to_z-of_z (longer h)) (
+    let k = count_leading_zeros 32 a.m in
+    let ea : c.from-2.result ≡ a.e = c.from-2.ensures ∙ to_z-of_z {w = w32} h in
+    let short : SFits w64 (pos k) = fits_in (pos k) (omega (arith, l)) (omega arith) in
+    let moved : SFits w64 (a.e -ℤ pos k) = diff_fits_in w64 a.e (pos k) (omega (arith, pos_fits h, l)) (omega (arith, neg_fits h, l)) in
+    rw (c.from.ensures, mod-eq_of_lt n.high, ea, c.from-3.ensures, to_z-of_z (longer h), to_z-of_z short, to_z-of_z moved) (
       n,
       record { is_scaled = inr n; above = omega (arith, pos_diff a.e (pos (count_leading_zeros 32 a.m)), pos_fits h, l); below = omega (arith, neg_diff a.e (pos (count_leading_zeros 32 a.m)), neg_fits h, l) },
       shift_same a.m (count_leading_zeros 32 a.m) a.e,

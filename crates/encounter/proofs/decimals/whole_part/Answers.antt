@@ -1,22 +1,14 @@
-use native.Mathlib.Omega.{arith}
-use lib.IntN.{pos}
 use mir.Facts.{to_z-of_z}
-use mir.Syntax.{w64}
 use Rattle.exact.proofs.Packing.{scaled_high}
 use Rattle.exact.proofs.Ranges.{in_fits}
-use Rattle.exact.proofs.Signed.{diff_fits_in}
 use Rattle.encounter.specs.Private.Loops.{narrow}
 use Rattle.encounter.proofs.decimals.Wholes.{part, no_part}
 use Rattle.encounter.proofs.decimals.whole_part.Goals as goal
 
-pub gap-n-requires : goal.gap-n-requires
-gap-n-requires c =
-    rw (to_z-of_z (in_fits c.requires.0)) (diff_fits_in w64 (pos 0) c.args.p.e (omega (arith, c.requires.0.below)) (omega (arith, c.requires.0.above)))
-
 pub returns-else-n-lt64 : goal.returns-else-n-lt64
 returns-else-n-lt64 c =
-    no_part (narrow c.args.p) c.gap-n.result c.requires.1 (rw (to_z-of_z (in_fits c.requires.0)) at c.gap-n.ensures) (scaled_high c.requires.0.is_scaled) c.if-n-lt64.false
+    no_part (narrow c.args.p) c.below_point-n.result c.requires.1 (rw (to_z-of_z (in_fits c.requires.0)) at c.below_point-n.ensures) (scaled_high c.requires.0.is_scaled) c.if-n-lt64.false
 
 pub returns-then-n-lt64 : goal.returns-then-n-lt64
 returns-then-n-lt64 c =
-    part (narrow c.args.p) c.gap-n.result c.requires.1 (rw (to_z-of_z (in_fits c.requires.0)) at c.gap-n.ensures)
+    part (narrow c.args.p) c.below_point-n.result c.requires.1 (rw (to_z-of_z (in_fits c.requires.0)) at c.below_point-n.ensures)

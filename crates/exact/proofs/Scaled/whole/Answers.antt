@@ -21,9 +21,6 @@ module _ (n : ℕ) (some : n ≡ 0 → ⊥) (fits : n < 2 ^ 32) where
 pub returns-then-n-eq0 : goal.returns-then-n-eq0
 returns-then-n-eq0 c = rw c.if-n-eq0.true (sym (whole_none false 32), rw (← whole_none false 32) (whole_exact false 32 0 (lit< tt) (lit< tt)))
 
-pub overflow_shl-m : goal.overflow_shl-m
-overflow_shl-m c = few c.args.n c.if-n-eq0.false c.ranges.n.fits
-
 pub negated-requires : goal.negated-requires
 negated-requires c = omega (arith, few c.args.n c.if-n-eq0.false c.ranges.n.fits)
 

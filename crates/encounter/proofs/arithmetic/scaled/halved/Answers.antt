@@ -6,4 +6,4 @@ use Rattle.encounter.proofs.arithmetic.Fitting.{half_of}
 use Rattle.encounter.proofs.arithmetic.scaled.halved.Goals as goal
 
 pub narrowed-requires : goal.narrowed-requires
-narrowed-requires c = widen (lit≤ tt) (half_of (c.moved.ensures ∙ ap half c.from.ensures) c.requires)
+narrowed-requires c = widen (lit≤ tt) (half_of (c.halved.ensures ∙ ap half c.from.ensures) c.requires)
