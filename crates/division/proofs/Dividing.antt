@@ -65,8 +65,11 @@ module _ (up : Bool) (x : Scaled) (k : ℕ) where
     unfolding mantissa_over
     mantissa_is = e ∙ rw (ne_eqb k 0 (passed_is x k h).some, le-ltb x.m (2 ^ 31) (omega (arith, normal.low)))
 
+    pub quotient_fits : SFits w32 x.e → SFits w32 (x.e +ℤ q.e)
+    quotient_fits t = rw mantissa_is (still_fits up x k normal positive (omega (arith, kl)) t (passed_is x k h).high)
+
     fits : SFits w32 (x.e +ℤ q.e)
-    fits = rw mantissa_is (still_fits up x k normal positive (omega (arith, kl)) (record { sfits = f }) (passed_is x k h).high)
+    fits = quotient_fits (record { sfits = f })
 
     coded : ℤ
     coded = to_z w32 (of_z w32 x.e) +ℤ to_z w32 (of_z w32 q.e)

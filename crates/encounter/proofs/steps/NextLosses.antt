@@ -1,14 +1,15 @@
 -- An encounter's next terms and their losses, where nothing was lost before.
-use mathlib.Core.Path.{◌≡◌, sym, ◌∙◌, ap}
+use mathlib.Core.Path.{◌≡◌, sym, ◌∙◌, ap, subst}
 use mathlib.Core.Bool.{Bool, true, false, not, ◌||◌, not-not}
 use Prim.Native.Nat.{ℕ, suc}
 use borrow.Author.Tests.{not-true}
 use Rattle.exact.specs.declared.Encounter.{Encounter}
 use Rattle.exact.specs.declared.Traced.{Traced}
 use Rattle.exact.specs.Arithmetic.{rounded, rounding, traced}
-use Rattle.exact.specs.Losses.{term_numbers, traced_letters, traced_terms, term_lost, operand_lost, either_lost, lossless}
+use Rattle.exact.specs.Losses.{letter_numbers, term_numbers, traced_letters, traced_terms, term_lost, operand_lost, either_lost, lossless}
+use Rattle.exact.specs.Private.Ranges.{largest_exponent, LettersIn, TermsIn}
 use Rattle.exact.specs.Private.Clean.{clean_letters, clean_terms}
-use Rattle.exact.specs.Steps.{TermsOf, next_c, next_p, next_v, next_y, next, terms, side_letters, side_terms}
+use Rattle.exact.specs.Steps.{LettersOf, TermsOf, next_c, next_p, next_v, next_y, next, terms, side_letters, side_terms}
 use Rattle.exact.proofs.Accepted.{neither}
 use Rattle.exact.proofs.Losses.{clean_term, clean_operand}
 use Rattle.encounter.specs.declared.state.Letters.{Letters}
@@ -17,6 +18,14 @@ use Rattle.encounter.specs.declared.steps.losses.Losses.{Losses}
 use Rattle.encounter.specs.declared.steps.numbers.LetterSet.{LetterSet}
 use Rattle.encounter.specs.declared.steps.numbers.TermSet.{TermSet}
 use Rattle.encounter.specs.Private.Held.{step_letters, step_terms, held_terms, set_letters, set_terms, CleanLosses}
+
+-- ---- clean numbers keep their ranges
+
+pub clean_letters_fine : {l : Letters} {w : LetterSet Traced} → set_letters w ≡ clean_letters (step_letters l) → LettersIn (step_letters l) → LettersIn (letter_numbers (set_letters w))
+clean_letters_fine e i = subst (λ (x : LettersOf Traced). LettersIn (letter_numbers x)) (sym e) i
+
+pub clean_terms_fine : {s : Terms} {w : TermSet Traced} → set_terms w ≡ clean_terms (step_terms s) → TermsIn largest_exponent (step_terms s) → TermsIn largest_exponent (term_numbers (set_terms w))
+clean_terms_fine e i = subst (λ (x : TermsOf Traced). TermsIn largest_exponent (term_numbers x)) (sym e) i
 
 -- ---- a side's losses one index on, from clean numbers
 

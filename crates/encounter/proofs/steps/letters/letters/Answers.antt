@@ -2,7 +2,7 @@ use lib.Dec.{lit≤}
 use Rattle.exact.specs.Losses.{traced_letters}
 use Rattle.exact.specs.Steps.{letters}
 use Rattle.exact.proofs.Ranges.{widen}
-use Rattle.encounter.proofs.steps.Tracing.{parts_fine, sum_fine}
+use Rattle.encounter.proofs.steps.Tracing.{parts_fine, two_fine}
 use Rattle.encounter.proofs.steps.Opening.{letters_fine}
 use Rattle.encounter.proofs.steps.letters.letters.Goals as goal
 
@@ -21,7 +21,7 @@ sum-requires c = let i = parts_fine c.args.up c.requires c.fractions-f.ensures i
 pub sum-requires-2 : goal.sum-requires-2
 sum-requires-2 c =
     let i = parts_fine c.args.up c.requires c.fractions-f.ensures in
-    (sum_fine c.args.up _ _ c.sum.ensures i.2 i.3, widen (lit≤ tt) i.0)
+    (two_fine c.args.up _ _ c.sum.ensures i.2 i.3, widen (lit≤ tt) i.0)
 
 pub returns : goal.returns
 unfolding traced_letters letters
