@@ -10,11 +10,6 @@ use Rattle.encounter.proofs.decimals.least_power_of.Goals as goal
 pub loop-k-init : goal.loop-k-init
 loop-k-init c = rw c.first_power-k.ensures (omega arith, before_first c.args.up (narrow c.args.x) c.args.s c.requires)
 
-pub whole_at-whole-requires : goal.whole_at-whole-requires
-whole_at-whole-requires c =
-    let inv = c.loop-k.invariant in
-    (in_range c.args.up (narrow c.args.x) c.args.s c.requires, inv.0, c.loop-k-test.true, inv.1 _ (omega (arith, inv.0)))
-
 pub returns-then-whole-ge1000 : goal.returns-then-whole-ge1000
 returns-then-whole-ge1000 c =
     let a = c.args in

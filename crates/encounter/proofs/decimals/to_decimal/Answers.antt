@@ -34,14 +34,6 @@ returns-then-n-gt174 c =
     let n = y.ensures in
     with_promises a.up a.x (tiny_is a.up a.x (narrow y.result) g.result n.0 n.2 (rw (read n.1) at g.ensures) c.if-n-lt32.false c.if-n-gt174.true (search rules) c.below_the_table.ensures)
 
-pub below_one-requires : goal.below_one-requires
-below_one-requires c =
-    let a = c.args in
-    let y = c.normal-y in
-    let g = c.below_point-n in
-    let n = y.ensures in
-    in_binade a.up a.x (narrow y.result) g.result n.0 n.2 (rw (read n.1) at g.ensures) c.if-n-lt32.false c.if-n-gt174.false
-
 pub returns : goal.returns
 returns c =
     let a = c.args in

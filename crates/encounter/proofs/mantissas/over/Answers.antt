@@ -35,9 +35,6 @@ in_range m l h = record { is_scaled = inr (record { low = omega (arith, l); high
 pub returns-then-k-eq0 : goal.returns-then-k-eq0
 returns-then-k-eq0 c = let a = c.args in ⊎_elim (by_zero a.up a.m a.k) (λ p. too_small a.up a.m a.k p.0 p.1) c.then-k-eq0.either
 
-pub over-requires : goal.over-requires
-over-requires c = let a = c.args in (in_range a.m c.if-m-lt2147483648.false (search rules), omega (arith, c.from.ensures, c.if-k-eq0.false), search rules)
-
 pub returns : goal.returns
 returns c =
     let a = c.args in

@@ -9,9 +9,6 @@ use Rattle.exact.proofs.Ranges.{widen}
 use Rattle.encounter.proofs.arithmetic.Fitting.{double_of, whole_of}
 use Rattle.encounter.proofs.calls.tests.passes_test_23.Goals as goal
 
-pub doubled-requires : goal.doubled-requires
-doubled-requires c = widen (lit≤ tt) c.requires.0
-
 pub at_most-requires : goal.at_most-requires
 at_most-requires c =
     (widen (lit≤ tt) (double_of c.doubled.ensures c.requires.0), widen (lit≤ tt) (whole_of false _ c.whole.ensures.0 (omega (arith, c.requires.1))))
