@@ -1,10 +1,10 @@
--- The numbers that are summed and compared: the test for them by cases, as code takes it, and what it says.
-use mathlib.Core.Path.{◌≡◌, refl}
-use mathlib.Core.Bool.{Bool, true, false, not, ◌&&◌}
-use Prim.Native.Nat.{ℕ, ◌^◌, ◌≤◌, ◌<◌, zero-le}
-use lib.Dec.{ltb, leb}
+-- The numbers that are summed and compared: what the test for them says.
+use mathlib.Core.Path.{◌≡◌}
+use mathlib.Core.Bool.{Bool, true, not}
+use Prim.Native.Nat.{ℕ, ◌^◌, ◌≤◌, zero-le}
+use lib.Dec.{ltb}
 use lib.IntN.{ℤ, pos, negsuc, nat_abs}
-use borrow.Author.Tests.{ne_eqb, le-ltb, lt-ltb, ltb-false, not-true}
+use borrow.Author.Tests.{le-ltb, ltb-false, not-true}
 use Rattle.exact.specs.declared.Scaled.{Scaled}
 use Rattle.exact.specs.Fraction.{◌⊕◌}
 use Rattle.exact.specs.Integer.{pos_part, neg_part}
@@ -15,17 +15,6 @@ use Rattle.exact.specs.Private.Round.{round}
 use Rattle.exact.proofs.Accepted.{both_true}
 use Rattle.exact.proofs.Form.{form_of, form_is}
 use Rattle.encounter.specs.Sums.{in_limits, sum_in_limits, greater, greater_in_limits}
-
--- ---- the test by cases
-
-module _ (x : Scaled) where
-  pub of_some : ltb (2 ^ 28) (nat_abs x.e) ≡ false → (x.m ≡ 0 → ⊥) → x.m < 2 ^ 32 → leb (2 ^ 31) x.m ≡ in_limits x
-  unfolding in_limits scaled_form
-  of_some h n l = rw (h, ne_eqb x.m 0 n, lt-ltb x.m (2 ^ 32) l) (go (leb (2 ^ 31) x.m))
-    where
-      go : (t : Bool) → t ≡ (t && true)
-      go true = refl
-      go false = refl
 
 -- ---- what it says
 

@@ -4,7 +4,7 @@ use lib.Dec.{lit≤}
 use mathlib.Core.Path.{sym}
 use Rattle.exact.specs.Decimals.{table_length}
 use Rattle.encounter.specs.Private.Loops.{narrow}
-use Rattle.encounter.proofs.decimals.Searching.{in_range, before_first, reaches_yes, reaches_no, least_at}
+use Rattle.encounter.proofs.decimals.Searching.{before_first, reaches_yes, reaches_no, least_at}
 use Rattle.encounter.proofs.decimals.least_power_of.Goals as goal
 
 pub loop-k-init : goal.loop-k-init

@@ -9,7 +9,7 @@ use Rattle.exact.specs.declared.Scaled.{Scaled}
 use Rattle.exact.specs.Private.Ranges.{InRange}
 use Rattle.exact.proofs.Signed.{fits}
 use Rattle.encounter.specs.Private.Loops.{narrow}
-use Rattle.encounter.proofs.decimals.Cases.{with_promises, zero_is, one_is, tiny_is, in_binade, same_is}
+use Rattle.encounter.proofs.decimals.Cases.{with_promises, zero_is, one_is, tiny_is, same_is}
 use Rattle.encounter.proofs.decimals.to_decimal.Goals as goal
 
 -- an exponent in range, read back from its bits
