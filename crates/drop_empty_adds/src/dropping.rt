@@ -54,7 +54,8 @@ fn keep(script: &mut [u8], from: usize, to: usize, n: usize) -> usize
 }
 
 /// Drops the adds of count 0 and moves the other records together. Answers how many bytes the new script has; one that is too long has none, and stays as it is.
-/// A number and no slice: the contract says what all of the lent bytes are afterwards, which a slice that is lent back would leave open.
+/// A number and no slice: the contract says what all of the lent bytes are afterwards, which a slice that is lent back would leave open; 0 and no
+/// Option where it is too long, as `InPlace` has it.
 #[tactic(auto, using(crate::proofs::Moving::too_long_left, crate::proofs::Moving::finished, crate::proofs::Claiming::claims))]
 pub fn drop_empty_adds(script: &mut [u8]) -> usize
     ensures in_place { InPlace script.old script.new result }

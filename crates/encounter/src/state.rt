@@ -65,7 +65,7 @@ pub enum Class {
     Open,
 }
 
-/// What an accepted read answers: the order, both ends and the class, the object number, the time and how many of the first terms are exact.
+/// What an accepted read answers, field by field as `Answer` has it, with 0 for no object number and no time: the order, both ends and the class, the object number, the time and how many of the first terms are exact.
 #[derive(Clone, Copy)]
 pub struct Reading {
     pub N: u32,

@@ -9,7 +9,7 @@ use exact::Scaled;
 // The largest exponent.
 const LIMIT: u32 = 1 << 28;
 
-// Whether x is a scaled number with e from -2^28 to 2^28.
+// Whether x is a scaled number with e from -2^28 to 2^28. Apart from test 10 of crate `division`, which has another limit of e (docs/DECISIONS.md).
 #[tactic(auto, unfolding(crate::specs::Sums::in_limits, exact::specs::Refusals::scaled_form))]
 fn in_limits(x: Scaled) -> bool
     ensures { result ≡ in_limits x }

@@ -16,6 +16,7 @@ use encounter::calls::reading;
 use encounter::state::{Reading, Session};
 use exact::refusals::Refusal;
 
+/// The ends of a read as doubles, in the form that the papers name.
 #[derive(Clone, Copy)]
 pub enum Doubles {
     // The lower end and the upper end, which is below 1.

@@ -78,7 +78,8 @@ impl Taken {
     }
 }
 
-/// The call that the record at a position asks for. After refusal 1 or 2 `next` is that position itself: the script ends there. The script is lent for reading only.
+/// The call that the record at a position asks for. After refusal 1 or 2 `next` is that position itself: the script ends there. The script is lent for reading only. Session, script
+/// and position are three parameters, as `record_call` names them.
 #[tactic(auto, using(crate::proofs::Requests::stopped, crate::proofs::Requests::taken), unfolding(exact::specs::Records::body_length, exact::specs::Records::request_of))]
 pub fn take_record(s: Session, script: &[u8], at: usize) -> Taken
     requires { Reached s }

@@ -61,7 +61,7 @@ fn run<W: Write>(output: &mut W, script: &[u8]) -> io::Result<usize>
     }
 }
 
-// Reads a script and writes what is printed for it, or answers what could not be done.
+// Reads a script and writes what is printed for it, or answers what could not be done, in the words that `main` says.
 fn screen<R: Read, W: Write>(input: &mut R, output: &mut W) -> Result<(), &'static str>
     ensures { OnOk result (IfSome (R.remaining input.old) (λ script. Appends (W.contents output.old) (W.contents output.new) (printed script))) }
 {

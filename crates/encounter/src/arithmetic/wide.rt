@@ -167,7 +167,7 @@ impl Reciprocal {
     }
 }
 
-/// a / k, by the reciprocal of k.
+/// a / k, by the reciprocal of k: the contract of `over`, faster where one k divides several numbers (docs/DECISIONS.md, 'Division by n + 2').
 pub fn over_by(up: bool, a: Wide, by: Reciprocal) -> Rounded
     requires { (InRange 32 (2 ^ 28) (narrow a)) × IsReciprocal by }
     ensures { Rounds up (value (narrow a) ÷ by.k) result }

@@ -8,7 +8,7 @@ use exact::Scaled;
 pub const POWERS: usize = 47;
 
 // D(10^k).
-const LOWER: [Scaled; POWERS] = [
+static LOWER: [Scaled; POWERS] = [
     Scaled {
         m: 2147483648,
         e: -31,
@@ -200,7 +200,7 @@ const LOWER: [Scaled; POWERS] = [
 ];
 
 // U(10^k).
-const UPPER: [Scaled; POWERS] = [
+static UPPER: [Scaled; POWERS] = [
     Scaled {
         m: 2147483648,
         e: -31,
@@ -391,7 +391,7 @@ const UPPER: [Scaled; POWERS] = [
     },
 ];
 
-/// D(10^k), or U(10^k) where up is true.
+/// D(10^k), or U(10^k) where up is true. The tables are statics: a constant array of structs is copied whole at each use.
 pub fn power_of_ten(up: bool, k: usize) -> Scaled
     requires { k < table_length }
     ensures { result ≡ entry up k }

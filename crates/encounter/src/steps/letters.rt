@@ -42,7 +42,7 @@ fn excess(up: bool, sx: u32, sy: u32) -> Traced
     ratio(up, xx - yy, xx)
 }
 
-/// c(0). `Bounds` is a premise of four private functions: `Encounter` is C's, and a type of its own would be unpacked in each.
+/// c(0). `Bounds`, and the lengths' limits that follow of it, are premises of private functions: `Encounter` is C's, and a type of its own would be unpacked in each.
 pub fn start(up: bool, E: Encounter) -> Traced
     requires { Bounds E }
     ensures { result ≡ start_of (traced up 32) E }

@@ -144,7 +144,7 @@ pub fn losses_at(l: LetterSet<Traced>, s: TermSet<Traced>) -> Losses
     }
 }
 
-/// Both sides' losses.
+/// Both sides' losses. No `BitOr`: its ghost members would say no more than the clause.
 pub fn either_side(below: Losses, above: Losses) -> Losses
     ensures { (result.term ≡ (below.term || above.term)) × (result.operand ≡ (below.operand || above.operand)) }
 {

@@ -26,6 +26,7 @@ pub fn advance(s: Session, count: u32) -> Progress
     let M = Wide::from(s.M);
     let mut t = term_pairs(s.lower.terms, s.upper.terms);
     let mut d = Wide::from(s.d);
+    // as in `counts_after`: a function for the two would have its results tied back in both proofs
     let first = (s.N - 1) as u64;
     let limit = (s.N + count - 1) as u64;
     for n in first..limit {

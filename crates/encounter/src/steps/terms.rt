@@ -11,7 +11,7 @@ use crate::arithmetic::wide::{Wide, over, product};
 use crate::steps::numbers::{LetterSet, Operations, TermSet};
 use exact::Scaled;
 
-// c(n + 1), where hv is h × v(n).
+// c(n + 1), where hv is h × v(n). The premises are of the parameters of `next_c` and `next`, which are no struct in the definitions either.
 fn next_term<A: Operations>(
     x: A,
     l: LetterSet<A::Number>,
