@@ -121,3 +121,7 @@ too_long_left l h = nothing_left l (unfold refuses_8 in lt-ltb largest_script (l
 -- so what follows it is not looked at
 pub no_further : (l rest : List ℕ) → largest_script < length l → dropped (l ++ rest) ≡ dropped l
 no_further l rest h = too_long_left (l ++ rest) (omega (arith, h, length-append l rest)) ∙ sym (too_long_left l h)
+
+-- the new script lies within what was lent
+pub new_within : (l buf : List ℕ) (r : ℕ) → InPlace l buf r → r ≤ length buf
+new_within l buf r p = omega (arith, p.ends, ap length p.is, length-append (dropped l) (drop (length (dropped l)) l))

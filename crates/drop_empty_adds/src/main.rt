@@ -30,23 +30,23 @@ fn run<W: Write>(output: &mut W, script: &mut [u8]) -> io::Result<usize>
     Ok(n)
 }
 
-// Like `screen` of that program, with another test, other texts and another promise: no function over a closure would be plainer. Reads a script and writes the new one,
-// or answers why nothing or not all was written.
-fn copy<R: Read, W: Write>(input: &mut R, output: &mut W) -> Result<(), &'static str>
+// Like `screen` of that program, with another text and another promise: no function over a closure would be plainer. Reads a script and writes the new one, of one that
+// is too long nothing. Answers how many bytes the script has, at most one more than a script may have; or why not all was read or written.
+fn copy<R: Read, W: Write>(input: &mut R, output: &mut W) -> Result<usize, &'static str>
     ensures { OnOk result (IfSome (R.remaining input.old) (λ script. Appends (W.contents output.old) (W.contents output.new) (dropped script))) }
 {
     let mut kept = [0u8; KEPT];
     let n = read_script(input, &mut kept).map_err(|_| UNREAD)?;
-    if LARGEST_SCRIPT < n {
-        return Err(TOO_LONG);
-    }
     run(output, &mut kept[..n]).map_err(|_| UNWRITTEN)?;
-    Ok(())
+    Ok(n)
 }
 
 fn main(rt: HostRuntime) {
-    if let Err(failure) = copy(&mut rt.stdin(), &mut rt.stdout()) {
-        // Whether this succeeds is not looked at.
-        let _ = eprintln!(rt; "drop_empty_adds: {failure}");
-    }
+    let failure = match copy(&mut rt.stdin(), &mut rt.stdout()) {
+        Ok(n) if n <= LARGEST_SCRIPT => return,
+        Ok(_) => TOO_LONG,
+        Err(failure) => failure,
+    };
+    // Whether this succeeds is not looked at.
+    let _ = eprintln!(rt; "drop_empty_adds: {failure}");
 }
