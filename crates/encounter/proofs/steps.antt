@@ -1,6 +1,7 @@
 pub mod Opening
 pub mod Progressing
 pub mod Rounds
+pub mod SideNumbers
 pub mod Divisors
 pub mod Tracing
 pub mod TermRanges

@@ -53,6 +53,7 @@ fn begun(E: Encounter) -> Result<Session, Refusal>
 }
 
 // The same with its object number and its time: refused as 3 to 7 or 11, then as 9.
+#[tactic(auto, using(crate::proofs::calls::Conjunctions::earlier_first))]
 fn begun_conjunction(C: Conjunction) -> Result<Session, Refusal>
     ensures { (s : Session) → called s result ≡ call (begins_conjunction C) s }
 {

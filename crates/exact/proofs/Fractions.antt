@@ -145,6 +145,10 @@ pub mul_assoc : (p q r : Frac) → p ⊗ q ⊗ r ≈ p ⊗ (q ⊗ r)
 unfolding ◌⊗◌
 mul_assoc p q r = record { eq = omega arith }
 
+pub mul_left_comm : (p q r : Frac) → p ⊗ (q ⊗ r) ≈ q ⊗ (p ⊗ r)
+unfolding ◌⊗◌
+mul_left_comm p q r = record { eq = omega arith }
+
 pub mul_add : (p q r : Frac) → p ⊗ (q ⊕ r) ≈ p ⊗ q ⊕ p ⊗ r
 unfolding ◌⊗◌ ◌⊕◌
 mul_add p q r = record { eq = omega arith }
@@ -182,6 +186,10 @@ div_add p q n = record { eq = omega arith }
 pub div_div : (p : Frac) (n k : ℕ) → p ÷ n ÷ k ≈ p ÷ k ÷ n
 unfolding ◌÷◌
 div_div p n k = record { eq = omega arith }
+
+pub mul_div_cancel : (p : Frac) (n : ℕ) → whole (suc n) ⊗ (p ÷ suc n) ≈ p
+unfolding ◌⊗◌ ◌÷◌ whole
+mul_div_cancel p n = record { eq = omega arith }
 
 suc_pred : {n : ℕ} → 0 < n → suc (pred n) ≡ n
 suc_pred h = suc-pred-eq_of_pos h

@@ -1,13 +1,13 @@
 -- Signed values: which integers fit, and how the code's tests and conversions read them. The laws with no width in their names are about an i32.
 use mathlib.Core.Path.{◌≡◌, refl, sym, subst}
 use mathlib.Core.Bool.{true, false}
-use Prim.Native.Nat.{ℕ, ◌+◌, ◌^◌, ◌≤◌, ◌<◌, zero-le}
+use Prim.Native.Nat.{ℕ, suc, pred, ◌+◌, ◌^◌, ◌≤◌, ◌<◌, zero-le}
 use native.Mathlib.Omega.{arith}
 use lib.Pow.{pow_pos}
-use lib.Dec.{T, eqb, ltb→lt}
+use lib.Dec.{T, ltb, ltb→lt, eqb}
 use lib.IntN.{ℤ, pos, negsuc, ◌+ℤ◌, ◌-ℤ◌, nat_abs}
 use lib.Signed.{mag, lt_z, non_neg}
-use borrow.Author.Tests.{ne_eqb, lt-ltb}
+use borrow.Author.Tests.{lt-ltb, le-ltb, ltb-true, ltb-false, ne_eqb}
 use mir.Syntax.{Width, w32, w64}
 use mir.Facts.{to_z-of_z}
 use mir.Val.{SFits, hbits, to_z, of_z}
@@ -66,6 +66,15 @@ nonnegative (negsuc n) h = subst T h tt
 pub nonnegative_abs : (z : ℤ) → lt_z z (pos 0) ≡ false → nat_abs z ≡ pos_part z
 nonnegative_abs (pos n) h = refl
 nonnegative_abs (negsuc n) h = absurd (subst T h tt)
+
+-- tests of a magnitude: below -k, or else above k
+pub far_below : (k : ℕ) (z : ℤ) → 0 < k → lt_z z (negsuc (pred k)) ≡ true → true ≡ ltb k (nat_abs z)
+far_below k (pos n) p h = absurd (subst T (sym h) tt)
+far_below k (negsuc n) p h = let l = ltb-true (pred k) n h in sym (lt-ltb k (suc n) (omega arith))
+
+pub far_above : (k : ℕ) (z : ℤ) → 0 < k → lt_z z (negsuc (pred k)) ≡ false → lt_z (pos k) z ≡ ltb k (nat_abs z)
+far_above k (pos n) p h = refl
+far_above k (negsuc n) p h = let l = ltb-false (pred k) n h in sym (le-ltb k (suc n) (omega arith))
 
 -- only zero has the bits of zero
 pub zero_bits : (e : ℤ) → SFits w32 e → eqb (of_z w32 e) 0 ≡ eqb (nat_abs e) 0

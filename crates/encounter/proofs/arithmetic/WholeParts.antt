@@ -18,6 +18,13 @@ use Rattle.exact.proofs.Bits.{size_is}
 use Rattle.exact.proofs.Packing.{pack_is, inexact_is, finish_off, finish_carry, finish_next}
 use Rattle.encounter.specs.Private.Loops.{whole_part}
 
+-- whether a rest r is left
+pub rest_none : (r : ℕ) → r ≡ 0 → false ≡ ltb 0 r
+rest_none r z = sym (le-ltb 0 r (omega arith))
+
+pub rest_some : (r : ℕ) → (r ≡ 0 → ⊥) → true ≡ ltb 0 r
+rest_some r p = sym (lt-ltb 0 r (omega (arith, p)))
+
 pub whole_down : (h : ℕ) (s : Bool) → whole_part false h s ≡ h
 unfolding whole_part
 whole_down h s = omega arith

@@ -1,9 +1,11 @@
 -- A begin with object and time by cases, as code takes them: a begin of its encounter, then test 9.
-use mathlib.Core.Path.{◌≡◌, sym, ◌∙◌, ap}
+use mathlib.Core.Path.{◌≡◌, refl, sym, ◌∙◌, ap}
 use Prim.Native.Nat.{ℕ, ◌≤◌, ◌<◌}
 use native.Mathlib.Omega.{arith}
 use borrow.Author.Tests.{eq-eqb, ne_eqb}
+use Rattle.std.specs.Prelude.{Result, Err}
 use Rattle.exact.specs.declared.Conjunction.{Conjunction}
+use Rattle.exact.specs.declared.refusals.Refusal.{Refusal}
 use Rattle.exact.specs.Records.{begin, begin_conjunction}
 use Rattle.exact.specs.Refusals.{begin_refusal, refuses_9, test_9, refusal}
 use Rattle.exact.proofs.Accepted.{test_9_passed}
@@ -11,8 +13,8 @@ use Rattle.encounter.specs.declared.state.Session.{Session}
 use Rattle.encounter.specs.declared.state.Answer.{Answer}
 use Rattle.encounter.specs.declared.state.Called.{Called}
 use Rattle.encounter.specs.Session.{state, no_object, refused, counted}
-use Rattle.encounter.specs.Calls.{history_of, outcome, begins, begins_conjunction, call}
-use Rattle.encounter.proofs.calls.Answering.{refused_is, taken_is, number}
+use Rattle.encounter.specs.Calls.{history_of, outcome, begins, begins_conjunction, call, called}
+use Rattle.encounter.proofs.calls.Answering.{refused_is, taken_is, number, positive}
 
 -- ---- test 9
 
@@ -56,3 +58,10 @@ module _ (C : Conjunction) (s : Session) {r : Called} (f : r ≡ call (begins C.
     pub conjunction_taken : record { answer = r.answer; session = with_object r.session } ≡ call (begins_conjunction C) s
     unfolding state
     conjunction_taken = taken_is s (begin_conjunction C) accepted (ap (λ (r : Called). r.answer) begun_is) (ap (λ (r : Called). with_object r.session) begun_is)
+
+-- ---- by what a begin of the encounter answers
+
+module _ (C : Conjunction) {r : Result Session Refusal} (f : (s : Session) → called s r ≡ call (begins C.encounter) s) where
+  pub earlier_first : {e : Refusal} → r ≡ Err e → (s : Session) → called s (Err e) ≡ call (begins_conjunction C) s
+  earlier_first {e} is s =
+      conjunction_refused C s (ap (called s) (sym is) ∙ f s) (refused_earlier _ C.object (λ z. omega (arith, positive e, z))) (positive e) refl

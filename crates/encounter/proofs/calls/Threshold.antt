@@ -1,9 +1,10 @@
 -- The class by the tests of both ends against the threshold's constant.
 use mathlib.Core.Path.{◌≡◌, refl, sym, ◌∙◌}
 use mathlib.Core.Bool.{Bool, true, false}
+use mathlib.Core.Logic.{inr}
 use Prim.Native.Nat.{◌*◌, ◌^◌}
 use native.Mathlib.Nat.{mul-one}
-use lib.Dec.{lit<}
+use lib.Dec.{lit<, lit≤}
 use lib.IntN.{negsuc}
 use lib.Ieee.{size, span, climb}
 use Rattle.exact.specs.declared.Scaled.{Scaled}
@@ -25,6 +26,9 @@ threshold = scaled 3518437209 (negsuc 44)
 threshold_is : round true 32 (1 over threshold_odds) ≡ threshold
 unfolding round pack finish spare inexact ◌over◌ size span climb
 threshold_is = refl
+
+pub threshold_in : InRange 32 (2 ^ 28) threshold
+threshold_in = record { is_scaled = inr (record { low = lit≤ tt; high = lit< tt }); above = lit≤ tt; below = lit≤ tt }
 
 -- at least 1/10,000 is 10,000 times at least 1
 scale : (x : Frac) → at_most (1 over threshold_odds) x ≡ at_most (whole 1) (x ⊗ whole threshold_odds)

@@ -87,6 +87,9 @@ module _ (up : Bool) (x : Scaled) where
   unfolding least_power
   none_reaches h = sym (least_is (reaches up x) table_length table_length (lit≤ tt) (λ k l. too_low up x 143 k h (last_low k l)) (λ l. let f : ⊥ = omega arith in absurd f))
 
+pub first_within : (s : ℕ) → s ≤ 142 → first s ≤ 46
+first_within s l = omega arith
+
 -- ---- one place
 
 pub entry_range : (up : Bool) (k : ℕ) → k < table_length → InRange 32 492 (entry up k)
