@@ -33,7 +33,7 @@ use jinthuol::{
 use listing::put_line;
 use listing::script::{Piece, put_lines, put_too_long};
 use records::take_record;
-use week::{Ends, Week, empty_week, enter, week_ends};
+use week::{Day, Ends, Week, empty_week, enter, entry, week_ends};
 
 // A session of which callers know only that calls left it. The arguments are any, and have no struct: one of a caller's own would tie them together.
 fn used(C: Conjunction, E: Encounter, count: u16, script: &[u8], at: usize) -> Session
@@ -131,6 +131,18 @@ fn entered(week: Week, day: u32, s: Session) -> Week
     ensures { (result ≡ (entry week day s).week) × FromCalls result }
 {
     enter(week, day, s).unwrap_or(week)
+}
+
+// What an entry puts into a day of any content.
+fn any_entry(
+    C: Conjunction,
+    E: Encounter,
+    count: u16,
+    script: &[u8],
+    at: usize,
+    day: &Day,
+) -> Result<(usize, Ends), Refusal> {
+    entry(day, used(C, E, count, script, at))
 }
 
 /// The ends of a week with two entries of that session, on any days.
@@ -231,6 +243,10 @@ fn any_sum(up: bool, x: Scaled, y: Scaled) -> Scaled {
 
 fn any_greater(x: Scaled, y: Scaled) -> Scaled {
     sums::greater(x, y)
+}
+
+fn any_figure(a: Ends, b: Ends) -> Ends {
+    a.with(b)
 }
 
 fn any_quotient(up: bool, x: Scaled, k: u32) -> Result<Scaled, Refusal> {

@@ -23,7 +23,7 @@ ghost use Rattle.week.specs.Told.{FromCalls};
 mod ends;
 mod weeks;
 
-use crate::weeks::{arrays_of, days_in};
+use crate::weeks::{place_for, with_day, write_week};
 use advice::advise;
 use division::divide;
 use encounter::decimals::to_decimal;
@@ -33,7 +33,7 @@ use exact::refusals::Refusal;
 use exact::{Conjunction, DAYS_A_WEEK, Decimal, Encounter, LARGEST_SCRIPT, PLACES_A_DAY, Scaled};
 use host::{PlotRecord, read_doubles, read_plot_record};
 use listing::script::{put_lines, put_too_long};
-use week::{Ends, empty_week, enter, week_ends};
+use week::Ends;
 
 /// The version of the functions below and their structs; bindings/c/jinthuol.h has the same number.
 pub const VERSION: u32 = 11;
@@ -254,7 +254,11 @@ pub fn jinthuol_read_plot_record(session: Session) -> Plotted
 pub fn jinthuol_empty_week() -> Week
     ensures { (result ≡ in_days empty_week) × (days_of result ≡ empty_week) × FromCalls (days_of result) }
 {
-    days_in(empty_week())
+    Week {
+        days: [Day {
+            places: [Bracket::from(None); PLACES_A_DAY],
+        }; DAYS_A_WEEK],
+    }
 }
 
 /// The week with the two ends of a read of the session in the next empty place of the day.
@@ -262,15 +266,13 @@ pub fn jinthuol_enter(week: Week, day: u32, session: Session) -> Entered
     requires { (FromCalls (days_of week)) × Reached session }
     ensures { (result ≡ entered_as (week_entry (days_of week) day session)) × (days_of result.week ≡ (week_entry (days_of week) day session).week) × FromCalls (days_of result.week) }
 {
-    let before = arrays_of(week);
-    let (refusal, after) = match enter(before, day, session) {
-        Ok(after) => (0, after),
-        Err(refusal) => (u32::from(refusal), before),
-    };
-    Entered {
-        refusal,
-        week: days_in(after),
+    let mut entered = Entered { refusal: 0, week };
+    write_week(&mut entered.week);
+    match place_for(&entered.week, day, session) {
+        Ok((d, p, ends)) => entered.week.days[d].places[p] = Bracket::from(Some(ends)),
+        Err(refusal) => entered.refusal = u32::from(refusal),
     }
+    entered
 }
 
 /// The week's two ends.
@@ -278,7 +280,14 @@ pub fn jinthuol_week_ends(week: Week) -> Ends
     requires { FromCalls (days_of week) }
     ensures { result ≡ ends_of_week (days_of week) }
 {
-    week_ends(arrays_of(week))
+    let mut ends = Ends {
+        lower: Scaled::ZERO,
+        upper: Scaled::ZERO,
+    };
+    for day in week.days.iter() {
+        ends = with_day(ends, day);
+    }
+    ends
 }
 
 /// A number in decimal, as a lower end or, where up is true, as an upper one.

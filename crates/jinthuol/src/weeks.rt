@@ -1,10 +1,17 @@
 //! The two directions of one conversion. A week between the array of arrays that crate `week` takes and the struct that programs in other languages have (request #111).
-ghost use Rattle.std.specs.Prelude.{◌≡◌, map};
+ghost use Rattle.std.specs.Prelude.{◌≡◌, IfOk, fold, map};
+ghost use Rattle.exact.specs.Kinds.{refusal_in};
+ghost use Rattle.exact.specs.Refusals.{entry_refusal};
+ghost use Rattle.encounter.specs.Calls.{history_of, reads, call, Reached};
 ghost use Rattle.jinthuol.specs.Week.{bracket_of, place_in, days_of, in_days};
+ghost use Rattle.week.specs.Week.{day_of, next_place, ends_of, held_in};
+ghost use Rattle.week.specs.Private.Walk.{with_bracket};
 
 use crate::{Bracket, Day, Week};
-use exact::Scaled;
-use week::Ends;
+use encounter::state::Session;
+use exact::refusals::Refusal;
+use exact::{DAYS_A_WEEK, Scaled};
+use week::{Ends, entry};
 
 impl From<Option<Ends>> for Bracket {
     ghost from_gives = { λ place b. b ≡ bracket_of place };
@@ -42,27 +49,63 @@ impl From<Bracket> for Option<Ends> {
 fn places_of(day: Day) -> week::Day
     ensures { result ≡ map place_in day.places }
 {
-    day.places.map(Option::from)
+    let [a, b, c, d, e, f, g, h] = day.places;
+    [
+        Option::from(a),
+        Option::from(b),
+        Option::from(c),
+        Option::from(d),
+        Option::from(e),
+        Option::from(f),
+        Option::from(g),
+        Option::from(h),
+    ]
 }
 
-fn day_with(places: week::Day) -> Day
-    ensures { result ≡ record { places = map bracket_of places } }
+// The places of a day as these calls write them: in a held one held is 1, in an empty one all is 0.
+fn write_day(day: &mut Day)
+    ensures { day.new ≡ record { places = map (λ b. bracket_of (place_in b)) day.old.places } }
 {
-    Day {
-        places: places.map(Bracket::from),
+    for place in day.places.iter_mut() {
+        if place.held == 0 {
+            *place = Bracket::from(None);
+        } else {
+            place.held = 1;
+        }
     }
 }
 
-pub fn arrays_of(week: Week) -> week::Week
-    ensures { result ≡ days_of week }
+// The same of each day. In place, since a second week costs more time than all else in an entry.
+pub fn write_week(week: &mut Week)
+    ensures { week.new ≡ in_days (days_of week.old) }
 {
-    week.days.map(places_of)
+    for day in week.days.iter_mut() {
+        write_day(day);
+    }
 }
 
-pub fn days_in(week: week::Week) -> Week
-    ensures { (result ≡ in_days week) × (days_of result ≡ week) }
+// The place that an entry takes, by its day and its number in it, and what goes there.
+pub fn place_for(week: &Week, day: u32, s: Session) -> Result<(usize, usize, Ends), Refusal>
+    requires { Reached s }
+    ensures number { refusal_in result ≡ entry_refusal (history_of s) day (next_place (day_of (days_of week.now) day)) }
+    ensures value { IfOk result (λ r. r ≡ (day, next_place (day_of (days_of week.now) day), ends_of (call reads s).answer)) }
 {
-    Week {
-        days: week.map(day_with),
+    let d = day as usize;
+    if DAYS_A_WEEK <= d {
+        return Err(Refusal::NoDay);
     }
+    let (p, ends) = entry(&places_of(week.days[d]), s)?;
+    Ok((d, p, ends))
+}
+
+// The ends of the brackets so far, and of those of one more day, in place order.
+pub fn with_day(mut ends: Ends, day: &Day) -> Ends
+    ensures { result ≡ fold with_bracket ends (held_in (map place_in day.now.places)) }
+{
+    for place in day.places.iter() {
+        if let Some(b) = Option::from(*place) {
+            ends = ends.with(b);
+        }
+    }
+    ends
 }

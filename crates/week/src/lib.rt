@@ -1,12 +1,16 @@
 //! Request #111 of document 02: a week of seven days of eight places, each empty or with the two ends of a read, and one figure for it.
 #![tactic(auto)]
 
-ghost use Rattle.std.specs.Prelude.{◌≡◌, IfOk, position, is_none, fold, filter_map, flat_map};
-ghost use Rattle.encounter.specs.Calls.{Reached};
-ghost use Rattle.week.specs.Week.{empty_week, enter, entry_of, week_ends};
+ghost use Rattle.std.specs.Prelude.{◌≡◌, true, IfOk, position, is_none, fold};
+ghost use Rattle.exact.specs.Kinds.{refusal_in};
+ghost use Rattle.exact.specs.Records.{read};
+ghost use Rattle.exact.specs.Refusals.{refusal, test_24};
+ghost use Rattle.encounter.specs.Calls.{history_of, reads, call, Reached};
+ghost use Rattle.encounter.specs.Sums.{sum_in_limits, greater_in_limits};
+ghost use Rattle.week.specs.Week.{ends_of, next_place, empty_week, enter, entry_of, held_in, week_ends};
 ghost use Rattle.week.specs.Told.{FromCalls};
 ghost use Rattle.week.specs.Claims.{Claims};
-ghost use Rattle.week.specs.Private.Walk.{no_ends, with_bracket};
+ghost use Rattle.week.specs.Private.Walk.{with_bracket};
 
 use encounter::calls::reading;
 use encounter::state::{Reading, Session};
@@ -53,7 +57,18 @@ fn next_place(day: &Day) -> Option<usize>
     day.iter().position(|place| place.is_none())
 }
 
-/// The week with the two ends of a read of the session in the next empty place of the day: refused as 13, then as the read is, as 21 or 23, then as 24.
+/// What an entry into a day puts there: the number of the next empty place, and the two ends of a read of the session. Refused as the read is, as 21 or 23, then as 24.
+pub fn entry(day: &Day, s: Session) -> Result<(usize, Ends), Refusal>
+    requires { Reached s }
+    ensures number { refusal_in result ≡ test_24 (refusal (history_of s) read) (next_place day.now) }
+    ensures value { IfOk result (λ r. r ≡ (next_place day.now, ends_of (call reads s).answer)) }
+{
+    let x = reading(s)?;
+    let p = next_place(day).ok_or(Refusal::FullDay)?;
+    Ok((p, Ends::from(x)))
+}
+
+/// The week with the two ends of a read of the session in the next empty place of the day: refused as 13, then as `entry` refuses.
 pub fn enter(mut week: Week, day: u32, s: Session) -> Result<Week, Refusal>
     requires { (FromCalls week) × Reached s }
     ensures { (entry_of week result ≡ enter week day s) × IfOk result FromCalls }
@@ -62,36 +77,34 @@ pub fn enter(mut week: Week, day: u32, s: Session) -> Result<Week, Refusal>
     if DAYS_A_WEEK <= d {
         return Err(Refusal::NoDay);
     }
-    let x = reading(s)?;
-    let p = next_place(&week[d]).ok_or(Refusal::FullDay)?;
-    week[d][p] = Some(Ends::from(x));
+    let (p, ends) = entry(&week[d], s)?;
+    week[d][p] = Some(ends);
     Ok(week)
 }
 
 impl Ends {
-    // The ends of the brackets so far, and of one more.
-    fn with(self, b: Ends) -> Ends
-        ensures { result ≡ with_bracket self b }
+    /// The ends of the brackets so far, and of one more, by the sum and the greater that take any numbers.
+    pub fn with(self, b: Ends) -> Ends
+        ensures { result ≡ record { lower = greater_in_limits self.lower b.lower; upper = sum_in_limits true self.upper b.upper } }
     {
         Ends {
             lower: greater(self.lower, b.lower),
             upper: sum(true, self.upper, b.upper),
         }
     }
-}
 
-// The ends of all brackets of a week, in day and place order, by the sum and the greater that take any numbers. A function of its own, since its clause mirrors the chain.
-fn gathered(week: &Week) -> Ends
-    ensures { result ≡ fold with_bracket no_ends (filter_map (λ place. place) (flat_map (λ day. day) week.now)) }
-{
-    let nothing = Ends {
-        lower: Scaled::ZERO,
-        upper: Scaled::ZERO,
-    };
-    week.iter()
-        .flatten()
-        .filter_map(|place| *place)
-        .fold(nothing, Ends::with)
+    // The ends of the brackets so far, and of those of one more day, in place order.
+    fn with_day(self, day: &Day) -> Ends
+        ensures { result ≡ fold with_bracket self (held_in day.now) }
+    {
+        let mut ends = self;
+        for place in day.iter() {
+            if let Some(b) = *place {
+                ends = ends.with(b);
+            }
+        }
+        ends
+    }
 }
 
 /// The greatest lower end held, and the upper ends added up; zero for both where nothing is held.
@@ -100,5 +113,12 @@ pub fn week_ends(week: Week) -> Ends
     ensures value { result ≡ week_ends week }
     ensures claims { Claims }
 {
-    gathered(&week)
+    let mut ends = Ends {
+        lower: Scaled::ZERO,
+        upper: Scaled::ZERO,
+    };
+    for day in week.iter() {
+        ends = ends.with_day(day);
+    }
+    ends
 }

@@ -1,29 +1,35 @@
 -- The two forms of a week, place by place and day by day.
-use mathlib.Core.Path.{◌≡◌, refl, sym, ap, ◌∙◌}
-use mathlib.Core.List.{List, [], ◌∷◌, map}
-use Prim.Native.Nat.{ℕ, ◌<◌}
-use denote.Param.Members.{Mut}
-use lib.ListN.{length, length-map}
+use mathlib.Core.Path.{◌≡◌, refl, sym, ap, ◌∙◌, subst}
+use mathlib.Core.List.{List, [], ◌∷◌, map, map-map}
+use Prim.Native.Nat.{ℕ, zero, suc, ◌+◌, ◌≤◌, ◌<◌}
+use lib.ListN.{length, length-map, get_or, drop, set}
 use native.Mathlib.Omega.{arith}
+use native.Mathlib.Numerals.{add-one}
 use borrow.Author.Tests.{eq-eqb, ne_eqb}
 use Rattle.std.specs.Prelude.{Option, Some, None}
-use Rattle.std.specs.Array.{IsMapOf}
-use Rattle.std.specs.Fn.{Called}
-use Rattle.std.proofs.lemmas.List.{same_lists}
+use Rattle.std.proofs.lemmas.List.{drop_all, drop_more}
 use Rattle.week.specs.declared.Ends.{Ends}
-use Rattle.week.proofs.Folding.{get_map}
-use Rattle.week.specs.Week.{Entry, Week as Array}
+use Rattle.week.proofs.Folding.{map_set, get_map}
+use Rattle.exact.specs.Refusals.{entry_refusal}
+use Rattle.encounter.specs.declared.state.Session.{Session}
+use Rattle.encounter.specs.Calls.{history_of, Reached, told_of}
+use Rattle.week.specs.Told.{FromCalls, tell, after}
+use Rattle.week.specs.Week.{day_of, next_place, Week as Array, Entry, entered, enter}
 use Rattle.jinthuol.specs.declared.Bracket.{Bracket}
+use Rattle.jinthuol.specs.declared.Day.{Day}
 use Rattle.jinthuol.specs.declared.Week.{Week}
 use Rattle.jinthuol.specs.Week.{bracket_of, place_in, days_of, in_days, entered_as}
 
--- what `map` of an array gives, where each call gives what h does
-pub mapped : {F A B : Type 0} (g : Mut F (A × Unit {0}) B) (h : A → B) {f : F} (xs : List A) (ys : List B) {n : ℕ} → IsMapOf g f xs ys n → length xs ≡ n → ((p : F) (x : A) (y : B) (q : F) → Called g p (x, tt) y q → y ≡ h x) → ys ≡ map h xs
-mapped g h [] [] m l e = refl
-mapped g h [] (y ∷ ys) m l e = absurd (let z : ⊥ = omega (arith, m.long, l) in z)
-mapped g h (x ∷ xs) ys m l e =
-    same_lists ys (map h (x ∷ xs)) (omega (arith, m.long, l, length-map (x ∷ xs) h))
-    (λ k d b. let i : k < length (x ∷ xs) = omega (arith, b, m.long, l) in let a = m.at k x d (omega (arith, b, m.long)) in e a.0 _ _ a.1 a.2 ∙ sym (get_map h (x ∷ xs) k x d i))
+-- h of the n entries from k on
+abbrev pub mapped_from : {A B : Type 0} → (A → B) → A → ℕ → ℕ → List A → List B
+mapped_from h d zero k l = []
+mapped_from h d (suc n) k l = h (get_or l k d) ∷ mapped_from h d n (k + 1) l
+
+-- what is given entry by entry is what `map` gives of all
+pub mapped : {A B : Type 0} (h : A → B) (d : A) (n k : ℕ) (l : List A) → length l ≡ k + n → mapped_from h d n k l ≡ map h (drop k l)
+mapped h d zero k l e = sym (ap (map h) (drop_all k l (omega (arith, e))))
+mapped h d (suc n) k l e =
+    ap (λ (r : List _). h (get_or l k d) ∷ r) (mapped h d n (k + 1) l (omega (arith, e))) ∙ sym (ap (map h) (drop_more l k d (omega (arith, e))))
 
 pub empty_is : (b : Bracket) → b.held ≡ 0 → None ≡ place_in b
 unfolding place_in
@@ -48,7 +54,97 @@ unfolding days_of in_days
 days_back [] = refl
 days_back (day ∷ l) = λ i. places_back day i ∷ days_back l i
 
--- an entry, of which code has the refusal's number and the week after it
-pub entered_is : {r : ℕ} {v : Array} {w : Week} {e : Entry} → record { refusal = r; week = v } ≡ e → w ≡ in_days v → record { refusal = r; week = w } ≡ entered_as e
-unfolding entered_as
-entered_is a b = λ i. record { refusal = (a i).refusal; week = (b ∙ ap (λ (x : Entry). in_days x.week) a) i }
+-- ---- a loop that writes in place
+
+-- f of the first i of a list, then the rest as it was
+abbrev pub partly : {A : Type 0} → (A → A) → List A → ℕ → List A
+partly f [] i = []
+partly f (x ∷ l) zero = x ∷ l
+partly f (x ∷ l) (suc i) = f x ∷ partly f l i
+
+module _ {A : Type 0} (f : A → A) where
+  pub partly_none : (l : List A) → l ≡ partly f l 0
+  partly_none [] = refl
+  partly_none (x ∷ l) = refl
+
+  pub partly_turn : (l : List A) (i : ℕ) (d : A) {k : List A} {y : A} → k ≡ partly f l i → i < length l → y ≡ f (get_or k i d) → set k i y ≡ partly f l (i + 1)
+  partly_turn l i d e h g = rw add-one (rw e (turn l i d h (g ∙ ap (λ (k : List A). f (get_or k i d)) e)))
+    where
+      turn : (l : List A) (i : ℕ) (d : A) {y : A} → i < length l → y ≡ f (get_or (partly f l i) i d) → set (partly f l i) i y ≡ partly f l (suc i)
+      turn [] i d h e = refl
+      turn (x ∷ l) zero d h e = λ j. e j ∷ partly_none l j
+      turn (x ∷ l) (suc i) d h e = ap (λ (r : List A). f x ∷ r) (turn l i d (omega (arith, h)) e)
+
+  pub partly_all : (l : List A) (i : ℕ) → length l ≤ i → partly f l i ≡ map f l
+  partly_all [] i h = refl
+  partly_all (x ∷ l) zero h = absurd (let z : ⊥ = omega (arith, h) in z)
+  partly_all (x ∷ l) (suc i) h = ap (λ (r : List A). f x ∷ r) (partly_all l i (omega (arith, h)))
+
+-- ---- each place as these calls write it
+
+abbrev pub again : Bracket → Bracket
+again b = bracket_of (place_in b)
+
+abbrev pub day_again : Day → Day
+day_again day = record { places = map again day.places }
+
+pub empty_again : (b : Bracket) → b.held ≡ 0 → bracket_of None ≡ again b
+empty_again b z = ap bracket_of (empty_is b z)
+
+pub held_again : (b : Bracket) → (b.held ≡ 0 → ⊥) → record { held = 1; lower = b.lower; upper = b.upper } ≡ again b
+unfolding bracket_of
+held_again b n = ap bracket_of (held_is b n)
+
+days_again : (l : List Day) → map day_again l ≡ map (λ (day : List (Option Ends)). record { places = map bracket_of day }) (map (λ (d : Day). map place_in d.places) l)
+days_again [] = refl
+days_again (d ∷ l) = λ i. record { places = sym (map-map bracket_of place_in d.places) i } ∷ days_again l i
+
+pub week_again : (l : List Day) → ◌≡◌ {A = Week} (record { days = map day_again l }) (in_days (days_of (record { days = l })))
+unfolding days_of in_days
+week_again l = λ i. record { days = days_again l i }
+
+-- ---- a day of the struct
+
+pub day_is : (w : Week) (i : ℕ) (d : Day) → i < length w.days → map place_in (get_or w.days i d).places ≡ day_of (days_of w) i
+unfolding days_of
+day_is w i d h = sym (get_map (λ (d : Day). map place_in d.places) w.days i d [] h)
+
+pub as_many : (w : Week) → length (days_of w) ≡ length w.days
+unfolding days_of
+as_many w = length-map w.days (λ d. map place_in d.places)
+
+-- the place of the struct that an entry writes
+pub put_in : (l : Array) (d p : ℕ) (z : Day) (e : Ends) → d < length l → ◌≡◌ {A = Week} (record { days = set (in_days l).days d (record { places = set (get_or (in_days l).days d z).places p (bracket_of (Some e)) }) }) (in_days (set l d (set (day_of l d) p (Some e))))
+unfolding in_days
+put_in l d p z e h =
+    let f : List (Option Ends) → Day = λ day. record { places = map bracket_of day } in
+    let k : get_or (map f l) d z ≡ f (day_of l d) = get_map f l d [] z h in
+    rw k (λ i. record { days = sym (map_set f l d (set (day_of l d) p (Some e)) ∙ (λ j. set (map f l) d (record { places = map_set bracket_of (day_of l d) p (Some e) j }))) i })
+
+pub entered_in : (l : Array) (z : Day) {d p day : ℕ} {e b : Ends} → d < length l → ◌≡◌ {A = ℕ × ℕ × Ends} (d, p, e) (day, next_place (day_of l day), b)
+    → ◌≡◌ {A = Week} (record { days = set (in_days l).days d (record { places = set (get_or (in_days l).days d z).places p (bracket_of (Some e)) }) }) (in_days (entered l day b))
+unfolding entered
+entered_in l z {d} {p} {e = e} h v = put_in l d p z e h ∙ (λ i. in_days (set l (v i).0 (set (day_of l (v i).0) (v i).1 (Some (v i).2))))
+
+-- ---- an entry, as code has it of the struct
+
+pub part_0 : {d e p q : ℕ} {b c : Ends} → ◌≡◌ {A = ℕ × ℕ × Ends} (d, p, b) (e, q, c) → d ≡ e
+part_0 g = λ i. (g i).0
+
+pub part_1 : {d e p q : ℕ} {b c : Ends} → ◌≡◌ {A = ℕ × ℕ × Ends} (d, p, b) (e, q, c) → p ≡ q
+part_1 g = λ i. (g i).1
+
+module _ (w : Array) (s : Session) (day : ℕ) where
+  abbrev number_of_entry : ℕ
+  number_of_entry = entry_refusal (history_of s) day (next_place (day_of w day))
+
+  pub still : Reached s → FromCalls w → FromCalls (enter w day s).week
+  still r f = record { told = tell f.told day (told_of r); came = after f.came day r }
+
+  -- what `jinthuol_enter` promises of the struct v, where the week after the entry is u
+  pub promised : {r : ℕ} {u : Array} {v : Week} → Reached s → FromCalls w → record { refusal = r; week = u } ≡ enter w day s → v ≡ in_days u
+      → (record { refusal = r; week = v } ≡ entered_as (enter w day s)) × (days_of v ≡ (enter w day s).week) × FromCalls (days_of v)
+  unfolding entered_as
+  promised {r} {u} {v} c f e g =
+      let k : days_of v ≡ (enter w day s).week = ap days_of g ∙ days_back u ∙ ap (λ (x : Entry). x.week) e in
+      ((λ i. record { refusal = (e i).refusal; week = (g ∙ ap (λ (x : Entry). in_days x.week) e) i }), k, subst FromCalls (sym k) (still c f))

@@ -1,8 +1,9 @@
-use borrow.Author.Tests.{tests}
 use Rattle.std.proofs.Common.{rules}
 use Rattle.jinthuol.specs.Week.{place_in}
 use Rattle.jinthuol.proofs.weeks.Copies.{mapped}
 use Rattle.jinthuol.proofs.weeks.places_of.Goals as goal
 
 pub returns : goal.returns
-returns c = mapped _ place_in c.args.day.places c.map.result c.map.ensures.items (search rules) (λ p x y q k. search (rules, tests))
+returns c =
+    rw (c.from.ensures, c.from-2.ensures, c.from-3.ensures, c.from-4.ensures, c.from-5.ensures, c.from-6.ensures, c.from-7.ensures, c.from-8.ensures)
+    (mapped place_in _ 8 0 c.args.day.places (search rules))

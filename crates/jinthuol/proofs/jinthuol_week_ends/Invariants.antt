@@ -1,0 +1,11 @@
+use mathlib.Core.Path.{◌≡◌}
+use lib.ListN.{drop}
+use Rattle.std.specs.Prelude.{fold}
+use Rattle.week.specs.Week.{held}
+use Rattle.week.specs.Private.Walk.{no_ends, with_bracket}
+use Rattle.jinthuol.specs.Week.{days_of}
+use Rattle.jinthuol.proofs.jinthuol_week_ends.Given as goal
+
+-- with the days that are left it comes to the same
+abbrev pub invariant-loop-day : goal.invariant-loop-day
+invariant-loop-day l = (l.day-items ≡ l.fn.week.days) × (fold with_bracket l.ends (held (drop l.day-index (days_of l.fn.week))) ≡ fold with_bracket no_ends (held (days_of l.fn.week)))
