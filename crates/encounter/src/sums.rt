@@ -7,14 +7,14 @@ use crate::arithmetic::scaled::at_most;
 use exact::Scaled;
 
 // The largest exponent.
-const LIMIT: u32 = 1 << 28;
+const LIMIT: i32 = 1 << 28;
 
 // Whether x is a scaled number with e from -2^28 to 2^28. Apart from test 10 of crate `division`, which has another limit of e (docs/DECISIONS.md).
 #[tactic(auto, unfolding(crate::specs::Sums::in_limits, exact::specs::Refusals::scaled_form))]
 fn in_limits(x: Scaled) -> bool
     ensures { result ≡ in_limits x }
 {
-    if LIMIT < x.e.unsigned_abs() {
+    if x.e < -LIMIT || LIMIT < x.e {
         return false;
     }
     if x.m == 0 { x.e == 0 } else { 1 << 31 <= x.m }

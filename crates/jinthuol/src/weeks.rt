@@ -1,4 +1,5 @@
-//! The two directions of one conversion. A week between the array of arrays that crate `week` takes and the struct that programs in other languages have (request #111).
+//! The struct of a week that programs in other languages have, beside the array of arrays that crate `week` takes (request #111): the two directions of a place, and what
+//! the exported calls do with the struct, in place, since a second week would cost more time than an entry.
 ghost use Rattle.std.specs.Prelude.{◌≡◌, IfOk, fold, map};
 ghost use Rattle.exact.specs.Kinds.{refusal_in};
 ghost use Rattle.exact.specs.Refusals.{entry_refusal};
@@ -46,6 +47,7 @@ impl From<Bracket> for Option<Ends> {
     }
 }
 
+// Place by place, since `map` of an array makes several copies of it.
 fn places_of(day: Day) -> week::Day
     ensures { result ≡ map place_in day.places }
 {
@@ -75,7 +77,7 @@ fn write_day(day: &mut Day)
     }
 }
 
-// The same of each day. In place, since a second week costs more time than all else in an entry.
+// The same of each day.
 pub fn write_week(week: &mut Week)
     ensures { week.new ≡ in_days (days_of week.old) }
 {

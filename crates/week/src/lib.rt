@@ -57,7 +57,7 @@ fn next_place(day: &Day) -> Option<usize>
     day.iter().position(|place| place.is_none())
 }
 
-/// What an entry into a day puts there: the number of the next empty place, and the two ends of a read of the session. Refused as the read is, as 21 or 23, then as 24.
+/// What an entry puts into a day: the number of the next empty place, and the two ends of a read of the session. Refused as the read is, as 21 or 23, then as 24.
 pub fn entry(day: &Day, s: Session) -> Result<(usize, Ends), Refusal>
     requires { Reached s }
     ensures number { refusal_in result ≡ test_24 (refusal (history_of s) read) (next_place day.now) }

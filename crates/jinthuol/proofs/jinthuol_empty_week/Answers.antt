@@ -1,5 +1,4 @@
 use mathlib.Core.Path.{◌≡◌, sym, ◌∙◌, ap, subst}
-use mathlib.Core.List.{map}
 use lib.ListN.{replicate}
 use Rattle.exact.specs.Numbers.{days_a_week, places_a_day}
 use Rattle.week.specs.Week.{empty_week}

@@ -3,7 +3,6 @@ use native.Mathlib.Omega.{arith}
 use mathlib.Core.List.{[]}
 use Prim.Native.Nat.{◌<◌}
 use lib.ListN.{get_or, set}
-use Rattle.std.specs.Prelude.{Some}
 use Rattle.encounter.specs.Calls.{history_of, reads, call}
 use Rattle.encounter.proofs.calls.Answering.{positive}
 use Rattle.week.specs.Week.{ends_of, entered}

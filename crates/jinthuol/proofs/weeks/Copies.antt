@@ -10,11 +10,17 @@ use Rattle.std.specs.Prelude.{Option, Some, None}
 use Rattle.std.proofs.lemmas.List.{drop_all, drop_more}
 use Rattle.week.specs.declared.Ends.{Ends}
 use Rattle.week.proofs.Folding.{map_set, get_map}
-use Rattle.exact.specs.Refusals.{entry_refusal}
+use Rattle.std.specs.Prelude.{fold}
+use Rattle.exact.specs.Numbers.{days_a_week}
+use Rattle.exact.specs.Records.{read}
+use Rattle.exact.specs.Refusals.{refusal, test_24, entry_refusal}
+use Rattle.week.specs.Private.Walk.{with_bracket}
+use Rattle.week.proofs.Tests.{test_rest}
+use Rattle.week.proofs.Walking.{one_day_more}
 use Rattle.encounter.specs.declared.state.Session.{Session}
 use Rattle.encounter.specs.Calls.{history_of, Reached, told_of}
 use Rattle.week.specs.Told.{FromCalls, tell, after}
-use Rattle.week.specs.Week.{day_of, next_place, Week as Array, Entry, entered, enter}
+use Rattle.week.specs.Week.{day_of, next_place, Week as Array, Entry, entered, enter, held, held_in}
 use Rattle.jinthuol.specs.declared.Bracket.{Bracket}
 use Rattle.jinthuol.specs.declared.Day.{Day}
 use Rattle.jinthuol.specs.declared.Week.{Week}
@@ -113,6 +119,26 @@ pub as_many : (w : Week) → length (days_of w) ≡ length w.days
 unfolding days_of
 as_many w = length-map w.days (λ d. map place_in d.places)
 
+-- the number of an entry, where code has it of the places of the day named
+pub number_is :
+    (w : Week) (s : Session) (day : ℕ) (d : Day) {n : ℕ} {l : List (Option Ends)} →
+    day < length w.days →
+    day < days_a_week →
+    l ≡ map place_in (get_or w.days day d).places →
+    n ≡ test_24 (refusal (history_of s) read) (next_place l) →
+    n ≡ entry_refusal (history_of s) day (next_place (day_of (days_of w) day))
+number_is w s day d h k e i =
+    i ∙ ap (λ (l : List (Option Ends)). test_24 (refusal (history_of s) read) (next_place l)) (e ∙ day_is w day d h) ∙ test_rest (history_of s) day (next_place (day_of (days_of w) day)) k
+
+-- a turn of the loop over the days
+pub day_turn :
+    (e : Ends) (w : Week) (i : ℕ) (d : Day) {r : Ends} →
+    i < length w.days →
+    r ≡ fold with_bracket e (held_in (map place_in (get_or w.days i d).places)) →
+    fold with_bracket r (held (drop (i + 1) (days_of w))) ≡ fold with_bracket e (held (drop i (days_of w)))
+day_turn e w i d h g =
+    rw (g, day_is w i d h) (one_day_more e (days_of w) i [] (omega (arith, h, as_many w)))
+
 -- the place of the struct that an entry writes
 pub put_in : (l : Array) (d p : ℕ) (z : Day) (e : Ends) → d < length l → ◌≡◌ {A = Week} (record { days = set (in_days l).days d (record { places = set (get_or (in_days l).days d z).places p (bracket_of (Some e)) }) }) (in_days (set l d (set (day_of l d) p (Some e))))
 unfolding in_days
@@ -135,10 +161,7 @@ pub part_1 : {d e p q : ℕ} {b c : Ends} → ◌≡◌ {A = ℕ × ℕ × Ends}
 part_1 g = λ i. (g i).1
 
 module _ (w : Array) (s : Session) (day : ℕ) where
-  abbrev number_of_entry : ℕ
-  number_of_entry = entry_refusal (history_of s) day (next_place (day_of w day))
-
-  pub still : Reached s → FromCalls w → FromCalls (enter w day s).week
+  still : Reached s → FromCalls w → FromCalls (enter w day s).week
   still r f = record { told = tell f.told day (told_of r); came = after f.came day r }
 
   -- what `jinthuol_enter` promises of the struct v, where the week after the entry is u

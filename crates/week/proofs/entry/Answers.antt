@@ -1,11 +1,13 @@
 use mathlib.Core.Path.{sym, ap, ◌∙◌}
 use native.Mathlib.Omega.{arith}
 use lib.ListN.{length}
-use Rattle.std.specs.Prelude.{◌≡◌}
+use Rattle.std.specs.Prelude.{◌≡◌, ℕ}
 use Rattle.std.proofs.Common.{rules}
 use Rattle.std.proofs.lemmas.Result.{err_from_is_err_and}
 use Rattle.encounter.specs.declared.state.Answer.{Answer}
-use Rattle.week.specs.Week.{ends_of}
+use Rattle.encounter.specs.Calls.{reads, call}
+use Rattle.week.specs.declared.Ends.{Ends}
+use Rattle.week.specs.Week.{next_place, ends_of}
 use Rattle.week.proofs.Places.{found, none_found}
 use Rattle.week.proofs.Entering.{full, got, refused_read, refused_24, accepted}
 use Rattle.week.proofs.entry.Goals as goal
@@ -32,4 +34,5 @@ returns-clause-number c =
 pub returns-clause-value : goal.returns-clause-value
 returns-clause-value c =
     let f = found c.args.day.now (sym c.next_place.ensures ∙ got c.ok_or.ensures.value c.in_ok-p.was) in
-    λ i. (f.0 i, (c.from.ensures ∙ ap (λ (a : Answer). ends_of a) c.in_ok-x.ensures) i)
+    let e : ◌≡◌ {A = ℕ × Ends} (c.in_ok-p.p, c.from.result) (next_place c.args.day.now, ends_of (call reads c.args.s).answer) = λ i. (f.0 i, (c.from.ensures ∙ ap (λ (a : Answer). ends_of a) c.in_ok-x.ensures) i) in
+    e

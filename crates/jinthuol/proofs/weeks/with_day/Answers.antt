@@ -1,13 +1,12 @@
-use mathlib.Core.Path.{◌≡◌, sym, ap, ◌∙◌}
+use mathlib.Core.Path.{sym, ◌∙◌}
 use mathlib.Core.List.{map}
 use Prim.Native.Nat.{◌<◌}
 use native.Mathlib.Omega.{arith}
-use lib.ListN.{length, length-map, get_or}
+use lib.ListN.{length, length-map}
 use Rattle.exact.specs.Scaled.{nought}
 use Rattle.std.specs.Prelude.{None}
 use Rattle.week.proofs.Folding.{get_map}
 use Rattle.week.proofs.Walking.{none_there, one_there, no_place_left}
-use Rattle.jinthuol.specs.declared.Bracket.{Bracket}
 use Rattle.jinthuol.specs.Week.{place_in}
 use Rattle.jinthuol.proofs.weeks.with_day.Goals as goal
 use Rattle.jinthuol.proofs.weeks.with_day.Goals.{in-Some, in_default}

@@ -2,7 +2,6 @@ use mathlib.Core.Path.{◌∙◌, ap}
 use mathlib.Core.List.{List}
 use native.Mathlib.Omega.{arith}
 use Rattle.jinthuol.specs.declared.Bracket.{Bracket}
-use Rattle.jinthuol.specs.declared.Day.{Day}
 use Rattle.jinthuol.proofs.weeks.Copies.{again, partly_none, partly_turn, partly_all, empty_again, held_again}
 use lib.ListN.{get_or}
 use Rattle.exact.specs.Scaled.{nought}

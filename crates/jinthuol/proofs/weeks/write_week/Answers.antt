@@ -2,7 +2,6 @@ use mathlib.Core.Path.{◌∙◌, ap}
 use mathlib.Core.List.{List, []}
 use native.Mathlib.Omega.{arith}
 use Rattle.jinthuol.specs.declared.Day.{Day}
-use Rattle.jinthuol.specs.declared.Week.{Week}
 use Rattle.jinthuol.proofs.weeks.Copies.{day_again, partly_none, partly_turn, partly_all, week_again}
 use Rattle.jinthuol.proofs.weeks.write_week.Goals as goal
 

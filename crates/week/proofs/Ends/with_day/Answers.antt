@@ -1,10 +1,6 @@
-use mathlib.Core.Path.{refl, sym, ap, ◌∙◌}
+use mathlib.Core.Path.{◌∙◌}
 use native.Mathlib.Omega.{arith}
-use lib.ListN.{drop}
-use Rattle.std.specs.Prelude.{None, fold}
-use Rattle.week.specs.declared.Ends.{Ends}
-use Rattle.week.specs.Week.{held_in}
-use Rattle.week.specs.Private.Walk.{with_bracket}
+use Rattle.std.specs.Prelude.{None}
 use Rattle.week.proofs.Walking.{none_there, one_there, no_place_left}
 use Rattle.week.proofs.Ends.with_day.Goals as goal
 use Rattle.week.proofs.Ends.with_day.Goals.{in-Some, in_default}
