@@ -58,14 +58,17 @@ fn next_place(day: &Day) -> Option<usize>
 }
 
 /// What an entry puts into a day: the number of the next empty place, and the two ends of a read of the session. Refused as the read is, as 21 or 23, then as 24.
+#[tactic(auto, using(crate::proofs::Entering::refused_read))]
 pub fn entry(day: &Day, s: Session) -> Result<(usize, Ends), Refusal>
     requires { Reached s }
     ensures number { refusal_in result ≡ test_24 (refusal (history_of s) read) (next_place day.now) }
     ensures value { IfOk result (λ r. r ≡ (next_place day.now, ends_of (call reads s).answer)) }
 {
-    let x = reading(s)?;
-    let p = next_place(day).ok_or(Refusal::FullDay)?;
-    Ok((p, Ends::from(x)))
+    match (reading(s), next_place(day)) {
+        (Err(refusal), _) => Err(refusal),
+        (_, None) => Err(Refusal::FullDay),
+        (Ok(x), Some(p)) => Ok((p, Ends::from(x))),
+    }
 }
 
 /// The week with the two ends of a read of the session in the next empty place of the day: refused as 13, then as `entry` refuses.
